@@ -1,0 +1,9 @@
+pub mod Alphabets
+pub mod Bytes
+pub mod Keywords
+pub mod Names
+pub mod Parts
+pub mod Read
+pub mod Refusals
+pub mod Replies
+pub mod WireLines
