@@ -2,8 +2,10 @@ pub mod Alphabets
 pub mod Bytes
 pub mod Keywords
 pub mod Names
+pub mod NamesHold
 pub mod Parts
 pub mod Read
 pub mod Refusals
 pub mod Replies
+pub mod RepliesHold
 pub mod WireLines

@@ -4,6 +4,7 @@ ghost use lib.ListN.{length};
 ghost use Rattle.smtp.specs.Bytes.{some};
 ghost use Rattle.smtp.specs.Parts.{firstPart, parts};
 ghost use Rattle.smtp.specs.Names.{dotted, hostName, address, wild, covered, coversName, namesCover};
+ghost use Rattle.smtp.specs.NamesHold.{NamesHold};
 ghost use Rattle.smtp.specs.Alphabets.{kindOf};
 use crate::bytes::from;
 use crate::bytes::is_digit;
@@ -134,4 +135,11 @@ pub fn names_cover(text: &[u8], host: &[u8]) -> bool
     ensures { λ r. ⌜ r ≡ namesCover (now (text .entry)) (now (host .entry)) ⌝ }
 {
     is_host_name(host) && some_covers(text, host, part_len(host, b'.'))
+}
+
+// Says nothing at run time; its contract is the law of parts, words, host names and patterns.
+pub fn names_hold() -> u8
+    ensures { λ _. ⌜ NamesHold ⌝ }
+{
+    0
 }

@@ -4,6 +4,7 @@ ghost use denote.Ref.{now};
 ghost use lib.ListN.{length, drop};
 ghost use Rattle.std.specs.Options.{mapped};
 ghost use Rattle.smtp.specs.Read.{held, readReply};
+ghost use Rattle.smtp.specs.RepliesHold.{RepliesHold};
 ghost use Rattle.smtp.specs.Keywords.{listed, partAt, nextAt, seen};
 use crate::bytes::from;
 use crate::bytes::same_word;
@@ -102,4 +103,12 @@ pub impl<'r> Iterator for ReplyLines<'r> as ReplyLinesIterator {
         self.at += line.size();
         Some(part)
     }
+}
+
+// Says nothing at run time; its contract is the law of replies: a reply is well formed exactly where it is lines one after the other, all
+// of one code, all but the last with a hyphen; they are the lines that are read; and what is handed out of a line stands at its place.
+pub fn replies_hold() -> u8
+    ensures { λ _. ⌜ RepliesHold ⌝ }
+{
+    0
 }

@@ -1,4 +1,5 @@
 use mathlib.Core.Path.{_≡_, sym, ap, _∙_}
+use borrow.Author.Needs.{needs}
 use native.Mathlib.Omega.{arith}
 use native.Mathlib.Nat.{le-refl}
 use lib.ListN.{length}
@@ -13,6 +14,4 @@ returns-then-at-s c =
     record { is = e ∙ sym (drop-all (c .args .at) s (omega arith)); len = ap length e ∙ omega arith }
 
 pub returns-else-at-s : need.returns-else-at-s
-returns-else-at-s c =
-    let e = between-to-end (c .args .s .now) (c .args .at) _ (le-refl _) in
-    record { is = e; len = ap length e ∙ length-drop (c .args .at) (c .args .s .now) }
+returns-else-at-s c = search (needs, between-to-end, length-drop)
