@@ -1,7 +1,8 @@
 ghost use mathlib.Core.Path.{_≡_};
 ghost use Prim.Native.Nat.{ℕ, _+_, _-_, _<_, _≤_, min};
+ghost use mathlib.Core.Bool.{Bool};
 ghost use lib.ListN.{length, take, drop};
-ghost use Rattle.smtp.specs.Bytes.{letter, digit, lowered, same};
+ghost use Rattle.smtp.specs.Bytes.{letter, digit, lowered, same, all};
 ghost use Rattle.smtp.specs.Names.{labelByte};
 ghost use Rattle.smtp.specs.Parts.{firstPart};
 
@@ -40,6 +41,26 @@ pub fn same_word(a: &[u8], b: &[u8]) -> bool
     }
     for i in 0..a.len() {
         if lower(a[i]) != lower(b[i]) {
+            return false;
+        }
+    }
+    true
+}
+
+// A kind of bytes, as the digits or those of a label.
+pub trait ByteKind {
+    ghost holds: { Self → ℕ → Bool };
+
+    fn has(self, b: u8) -> bool
+        ensures { λ r. ⌜ r ≡ holds self b ⌝ };
+}
+
+// Whether all bytes are of one kind.
+pub fn are_all<K: ByteKind + Copy>(s: &[u8], kind: K) -> bool
+    ensures { λ r. ⌜ r ≡ all (K·ByteKind .holds kind) (now (s .entry)) ⌝ }
+{
+    for b in s {
+        if !kind.has(*b) {
             return false;
         }
     }

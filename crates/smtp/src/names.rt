@@ -6,6 +6,7 @@ ghost use Rattle.smtp.specs.Parts.{firstPart, parts};
 ghost use Rattle.smtp.specs.Names.{dotted, hostName, address, wild, covered, coversName, namesCover};
 ghost use Rattle.smtp.specs.NamesHold.{NamesHold};
 ghost use Rattle.smtp.specs.Alphabets.{kindOf};
+use crate::bytes::ByteKind;
 use crate::bytes::from;
 use crate::bytes::is_digit;
 use crate::bytes::is_label_byte;
@@ -15,19 +16,19 @@ use crate::bytes::part_len;
 use crate::bytes::same_word;
 use crate::bytes::upto;
 
-// The bytes that a dotted word may be made of.
+// The bytes that a word may be made of.
 #[derive(Clone, Copy)]
-enum Alphabet {
+pub enum Alphabet {
     // letters, digits and hyphens: the labels of a host name
     Label,
     // RFC 5321's atext: the atoms of a dot-string
     Atom,
 }
 
-impl Alphabet {
-    fn has(self, b: u8) -> bool
-        ensures { λ r. ⌜ r ≡ kindOf self b ⌝ }
-    {
+pub impl ByteKind for Alphabet as AlphabetByteKind {
+    ghost holds = { kindOf };
+
+    fn has(self, b: u8) -> bool {
         match self {
             Alphabet::Label => is_label_byte(b),
             Alphabet::Atom => {

@@ -2,17 +2,17 @@ ghost use mathlib.Core.Path.{_≡_};
 ghost use Prim.Native.Nat.{ℕ, _+_, _-_, _^_, _<_, _≤_};
 ghost use lib.ListN.{length, take, drop};
 ghost use Rattle.std.specs.Options.{mapped};
-ghost use Rattle.smtp.specs.Bytes.{all};
-ghost use Rattle.smtp.specs.Names.{labelByte};
 ghost use Rattle.smtp.specs.Replies.{textByte, textLen, crlfFirst, digitsCode, textLine, bareLine, lineAt, isLast, width, size};
 ghost use Rattle.smtp.specs.WireLines.{lineOf};
 ghost use Rattle.smtp.specs.Keywords.{isKeyword, listing, partOf, seen, sizeIn};
+use crate::bytes::are_all;
 use crate::bytes::from;
 use crate::bytes::is_digit;
-use crate::bytes::is_label_byte;
 use crate::bytes::is_letter;
 use crate::bytes::part_len;
 use crate::bytes::upto;
+use crate::names::Alphabet;
+use crate::names::AlphabetByteKind;
 
 // What stands between a line's code and its text.
 #[derive(Clone, Copy)]
@@ -159,17 +159,6 @@ pub(crate) fn line_at<'r>(s: &'r [u8]) -> Option<WireLine<'r>>
     }
 }
 
-fn are_label_bytes(s: &[u8]) -> bool
-    ensures { λ r. ⌜ r ≡ all labelByte (now (s .entry)) ⌝ }
-{
-    for b in s {
-        if !is_label_byte(*b) {
-            return false;
-        }
-    }
-    true
-}
-
 // Whether a word is a keyword: a letter or digit, then letters, digits and hyphens.
 fn is_keyword(word: &[u8]) -> bool
     ensures { λ r. ⌜ r ≡ isKeyword (now (word .entry)) ⌝ }
@@ -178,7 +167,7 @@ fn is_keyword(word: &[u8]) -> bool
         return false;
     }
     let first = word[0];
-    (is_letter(first) || is_digit(first)) && are_label_bytes(from(word, 1))
+    (is_letter(first) || is_digit(first)) && are_all(from(word, 1), Alphabet::Label)
 }
 
 // A line that is not the first, by its text and the text's place: the keyword that the text starts with, or the text.
