@@ -1,0 +1,14 @@
+pub mod Formed
+pub mod FormedLines
+pub mod Headed
+pub mod Lined
+pub mod MailLaws
+pub mod MailOptions
+pub mod MailParted
+pub mod MailReading
+pub mod MailRounds
+pub mod MailTexts
+pub mod MailWriting
+pub mod Stuffed
+pub mod Tagged
+pub mod Unstuffed

@@ -1,0 +1,10 @@
+pub mod Content
+pub mod ContentHold
+pub mod Lines
+pub mod MailLines
+pub mod MailLinesHold
+pub mod MailParts
+pub mod Stuffing
+pub mod StuffingHold
+pub mod Tags
+pub mod TagsHold
