@@ -7,10 +7,11 @@ ghost use denote.Ref.{now};
 ghost use Rattle.std.specs.Options.{mapped};
 ghost use Rattle.std.specs.Results.{mapped as answered};
 ghost use Rattle.std.specs.declared.result.Result.the-variants.{Ok, Err};
-ghost use Rattle.smtp.specs.Bytes.{all, some};
 ghost use Rattle.message.specs.MailLines.{pathForm, optionForm, isRequireTls, isSize, isRet, mailLine, ending, atFront, writing, bufferAfter};
 ghost use Rattle.message.specs.MailLinesHold.{FormHolds, PartsHold, PlaceHolds, ReadBack, Ours, WrittenAgain, roundTrip, againIn, againAfter};
 ghost use Rattle.message.specs.MailParts.{said, kindOf, counted, noneSeen, seen, optionsIn, checked, bodyOf, cut, commandOf};
+use smtp::bytes::ByteKind;
+use smtp::bytes::are_all;
 use smtp::bytes::from;
 use smtp::bytes::is_digit;
 use smtp::bytes::part_len;
@@ -67,10 +68,10 @@ enum Kind {
     Visible,
 }
 
-impl Kind {
-    fn has(self, b: u8) -> bool
-        ensures { λ r. ⌜ r ≡ kindOf self b ⌝ }
-    {
+impl ByteKind for Kind as KindByteKind {
+    ghost holds = { kindOf };
+
+    fn has(self, b: u8) -> bool {
         match self {
             Kind::Digit => is_digit(b),
             Kind::Visible => matches!(b, b'!'..=b'~'),
@@ -78,23 +79,11 @@ impl Kind {
     }
 }
 
-// Whether all bytes are of one kind.
-fn are(s: &[u8], kind: Kind) -> bool
-    ensures { λ r. ⌜ r ≡ all (kindOf kind) (now (s .entry)) ⌝ }
-{
-    for b in s {
-        if !kind.has(*b) {
-            return false;
-        }
-    }
-    true
-}
-
 // Whether an option is 1 or more bytes of 33 to 126.
 fn is_option(option: &[u8]) -> bool
     ensures { λ r. ⌜ r ≡ optionForm (now (option .entry)) ⌝ }
 {
-    !option.is_empty() && are(option, Kind::Visible)
+    !option.is_empty() && are_all(option, Kind::Visible)
 }
 
 fn is_require_tls(option: &[u8]) -> bool
@@ -111,7 +100,7 @@ fn is_size(option: &[u8]) -> bool
     same_word(upto(option, 5), b"SIZE=")
         && !value.is_empty()
         && value.len() <= 20
-        && are(value, Kind::Digit)
+        && are_all(value, Kind::Digit)
 }
 
 fn is_ret(option: &[u8]) -> bool
