@@ -1,0 +1,4 @@
+pub mod Held
+pub mod Lettered
+pub mod Lined
+pub mod Policies
