@@ -1,19 +1,18 @@
 -- The laws of MAIL lines.
-use Prim.Native.Nat.{ℕ, suc, _+_, _-_, _≤_, _<_}
-use mathlib.Core.Bool.{Bool, true, false, not, cond, _&&_, _||_}
-use mathlib.Core.List.{List, [], _∷_, _++_, map}
-use mathlib.Core.Logic.{_⊎_, inl, inr}
+use Prim.Native.Nat.{ℕ, _+_, _-_, _≤_, _<_}
+use mathlib.Core.Bool.{Bool, true, false, not, cond, _&&_}
+use mathlib.Core.List.{List, [], _∷_, _++_}
+use mathlib.Core.Logic.{inl, inr}
 use mathlib.Core.Path.{_≡_, refl, sym, ap, subst, _∙_}
 use native.Mathlib.Omega.{arith}
 use lib.Chars.{codes}
-use lib.Dec.{leb, ltb, eqb}
-use lib.ListN.{length, getD, take, drop}
+use lib.Dec.{ltb, eqb}
+use lib.ListN.{length, take, drop}
 use Rattle.std.proofs.shelf.Ways.{tells}
-use Rattle.std.proofs.shelf.Tests.{true≢false, and-parts, and-from, leb-true, eqb-true, eq-eqb, lt-ltb, le-ltb, ltb-true, and-right}
+use Rattle.std.proofs.shelf.Tests.{true≢false, and-parts, and-from, eqb-true, eq-eqb, lt-ltb, le-ltb, ltb-true, and-right}
 use Rattle.std.proofs.shelf.Lists.{append-assoc, append-nil, length-append, length-map, length-drop, take-at, drop-at, take-append-drop, nil-from-length}
-use Rattle.std.specs.Orderings.{Decides}
 use Rattle.std.specs.Results.{Cases}
-use Rattle.std.specs.shelf.Lists.{All, joined}
+use Rattle.std.specs.shelf.Lists.{All}
 use Rattle.std.specs.declared.result.Result.{Result}
 use Rattle.std.specs.declared.result.Result.the-variants.{Ok, Err}
 use Rattle.smtp.specs.declared.refusal.Refusal.{Refusal}
@@ -21,8 +20,9 @@ use Rattle.smtp.specs.Bytes.{lowered, same, all, some}
 use Rattle.smtp.specs.Parts.{firstPart, otherParts, behindFirst}
 use Rattle.smtp.specs.Replies.{crlfFirst}
 use Rattle.message.specs.MailLines.{mailFrom, crlf, inner, pathOf, tailOf, optionsOf, pathForm, optionForm, ends, pathPart, optionsPart, mailForm, isKnown, isRequireTls, repeated, Mail, mailOf, mailLine, ending, written}
-use Rattle.message.specs.MailLinesHold.{Alike, PathText, OptionText, made, Parts, FormHolds, PartsHold, PlaceHolds, ReadBack, Ours, WrittenAgain}
-use Rattle.message.proofs.MailTexts.{alike-same, same-alike, lacks, first-behind, others-behind, behind-behind, split-first, blanked, split-options, text-path, path-text, path-lacks, options-text, blanked-first, blanked-options}
+use Rattle.message.specs.MailLinesHold.{PathText, OptionText, made, Parts, FormHolds, PartsHold, PlaceHolds, ReadBack, Ours, WrittenAgain}
+use Rattle.message.specs.MailLinesShown.{MailLinesShown}
+use Rattle.message.proofs.MailTexts.{alike-same, same-alike, first-behind, behind-behind, split-first, blanked, split-options, text-path, path-text, path-lacks, options-text, blanked-first, blanked-options}
 use Rattle.message.proofs.MailWriting.{path-length, ending-length}
 
 -- a text with CRLF at its end
@@ -210,3 +210,33 @@ written-again line h =
     let (path, requireTls, p, e) = ours-written line h in
     let f = ap (λ (s : List ℕ). mailLine s true) e ∙ read-back path requireTls p in
     subst (λ (r : Result Mail Refusal). Cases r (λ (mail : Mail). written (mail .path) (mail .requireTls) ≡ line) (λ _. ⊥)) (sym f) (sym e)
+
+pub shown : MailLinesShown
+shown = record {
+  plain = refl;
+  empty = refl;
+  option = refl;
+  others = refl;
+  longest = refl;
+  blanks = refl;
+  ending = refl;
+  behind = refl;
+  path = refl;
+  bare = refl;
+  value = refl;
+  none = refl;
+  above = refl;
+  other = refl;
+  twice = refl;
+  later = refl;
+  inClear = refl;
+  twiceInClear = refl;
+  formFirst = refl;
+  long = refl;
+  garbled = refl;
+  ours = refl;
+  oursPlain = refl;
+  length36 = refl;
+  illFirst = refl;
+  short = refl;
+}

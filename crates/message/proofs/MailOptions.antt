@@ -1,18 +1,18 @@
 -- Options read one after the other: what they say, by what those before have said.
-use Prim.Native.Nat.{ℕ, suc, _+_, _<_}
-use mathlib.Core.Bool.{Bool, true, false, cond, _&&_, _||_}
+use Prim.Native.Nat.{ℕ, _<_}
+use mathlib.Core.Bool.{Bool, true, false, _&&_, _||_}
 use mathlib.Core.List.{List, [], _∷_}
-use mathlib.Core.Path.{_≡_, refl, sym, ap, _∙_}
+use mathlib.Core.Path.{_≡_, refl, ap, _∙_}
 use native.Mathlib.Omega.{arith}
 use lib.Dec.{eqb}
 use lib.ListN.{length, drop}
 use Rattle.std.proofs.shelf.Ways.{tells}
 use Rattle.smtp.specs.Bytes.{all, some}
 use Rattle.smtp.specs.Parts.{firstPart, otherParts, fromFirst}
-use Rattle.message.specs.declared.mail_line.Tally.{Tally}
-use Rattle.message.specs.declared.mail_line.Options.{Options}
+use Rattle.message.specs.declared.mail_options.Tally.{Tally}
+use Rattle.message.specs.declared.mail_options.Options.{Options}
 use Rattle.message.specs.MailLines.{optionForm, isKnown, isRequireTls, isSize, isRet, twice}
-use Rattle.message.specs.MailParts.{counted, none, noneSeen, seen, tallyOf, optionsIn}
+use Rattle.message.specs.MailParts.{counted, noneSeen, seen, optionsIn}
 
 -- options seen one after the other
 abbrev pub over : Options → List (List ℕ) → Options

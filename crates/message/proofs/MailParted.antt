@@ -1,19 +1,18 @@
 -- A MAIL line taken apart step by step.
 use Prim.Native.Nat.{ℕ, _+_, _-_, _<_, _≤_}
-use mathlib.Core.Bool.{Bool, true, false, not, cond, _&&_, _||_}
+use mathlib.Core.Bool.{Bool, true, false, cond, _&&_}
 use mathlib.Core.List.{List, [], _∷_}
-use mathlib.Core.Path.{_≡_, refl, sym, ap, _∙_}
+use mathlib.Core.Path.{_≡_, refl, ap, _∙_}
 use native.Mathlib.Omega.{arith}
-use lib.Dec.{leb, ltb, eqb}
+use lib.Dec.{ltb, eqb}
 use lib.ListN.{length, getD, take, drop}
 use Rattle.std.proofs.shelf.Ways.{tells}
-use Rattle.std.proofs.shelf.Lists.{getD-drop, length-drop, getD-past}
+use Rattle.std.proofs.shelf.Lists.{getD-drop}
 use Rattle.std.proofs.shelf.Tests.{cases-lt}
 use mathlib.Core.Logic.{inl, inr}
-use Rattle.std.specs.declared.option.Option.{Option}
 use Rattle.std.specs.declared.option.Option.the-variants.{Some, None}
-use Rattle.smtp.specs.Bytes.{same, all, some}
-use Rattle.smtp.specs.Parts.{firstPart, otherParts, behindFirst}
+use Rattle.smtp.specs.Bytes.{same}
+use Rattle.smtp.specs.Parts.{firstPart, behindFirst}
 use Rattle.smtp.specs.Replies.{crlfFirst}
 use Rattle.smtp.proofs.Parted.{partLen, take-first, drop-behind}
 use Rattle.message.specs.MailLines.{mailFrom, inner, pathOf, tailOf, ends}
@@ -33,7 +32,8 @@ short [] h = refl
 short (x ∷ []) h = grind (arith, tells)
 short (x ∷ (y ∷ s)) h = absurd (omega arith)
 
-some-cond : {A : Type 0} (b : Bool) (x y : A) → Some y ≡ cond b (Some x) None → (b ≡ true) × (y ≡ x)
+-- a value that is there where a test says so
+pub some-cond : {A : Type 0} (b : Bool) (x y : A) → Some y ≡ cond b (Some x) None → (b ≡ true) × (y ≡ x)
 some-cond true x y e = (refl, cc)
 some-cond false x y e = absurd (let z : _≡_ {A = ℕ} 0 1 = cc in omega arith)
 

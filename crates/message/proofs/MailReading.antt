@@ -4,20 +4,20 @@ use mathlib.Core.Bool.{Bool, true, false, not, cond, _&&_, _||_}
 use mathlib.Core.List.{List}
 use mathlib.Core.Path.{_≡_, refl, sym, ap, _∙_}
 use native.Mathlib.Omega.{arith}
-use lib.Dec.{leb, ltb, eqb}
+use lib.Dec.{ltb}
 use lib.ListN.{length}
 use Rattle.std.proofs.shelf.Ways.{tells}
 use Rattle.std.proofs.shelf.Tests.{true≢false}
-use Rattle.std.specs.declared.option.Option.{Option}
 use Rattle.std.specs.declared.option.Option.the-variants.{Some, None}
 use Rattle.std.specs.declared.result.Result.{Result}
 use Rattle.std.specs.declared.result.Result.the-variants.{Ok, Err}
 use Rattle.smtp.specs.declared.refusal.Refusal.{Refusal}
-use Rattle.smtp.specs.declared.refusal.Refusal.the-variants.{MailLineTooLong, MailLineForm, UnknownOption, RepeatedOption, RequireTlsInClear}
+use Rattle.smtp.specs.declared.refusal.Refusal.the-variants.{MailLineForm, UnknownOption, RepeatedOption, RequireTlsInClear}
 use Rattle.smtp.specs.Bytes.{all, some}
-use Rattle.message.specs.declared.mail_line.Options.{Options}
-use Rattle.message.specs.MailLines.{Mail, inner, pathOf, tailOf, optionsOf, pathForm, optionForm, ends, pathPart, optionsPart, mailForm, isKnown, isRequireTls, repeated, mailOf, mailLine}
+use Rattle.message.specs.declared.mail_options.Options.{Options}
+use Rattle.message.specs.MailLines.{Mail, inner, pathOf, tailOf, optionsOf, pathForm, ends, optionsPart, mailForm, isKnown, isRequireTls, repeated, mailOf, mailLine}
 use Rattle.message.specs.MailParts.{commandOf, optionsIn, checked}
+use Rattle.message.proofs.MailParted.{some-cond}
 
 -- what comes of a line whose options were checked
 abbrev after : Result (Unit {0}) Refusal → Mail → Result Mail Refusal
@@ -36,10 +36,6 @@ not-long line covered h = let e : ltb 523 (length line) ≡ false = grind (arith
 none-is : {A : Type 0} (b : Bool) (x : A) → None ≡ cond b (Some x) None → b ≡ false
 none-is true x e = absurd (let z : _≡_ {A = ℕ} 0 1 = cc in omega arith)
 none-is false x e = refl
-
-some-is : {A : Type 0} (b : Bool) (x y : A) → Some y ≡ cond b (Some x) None → (b ≡ true) × (y ≡ x)
-some-is true x y e = (refl, cc)
-some-is false x y e = absurd (let z : _≡_ {A = ℕ} 0 1 = cc in omega arith)
 
 -- the form by its tests: the two ends, a `>`, the path, the options
 form-cut : (a b p o : Bool) → (a && b) ≡ false → (a && ((b && p) && o)) ≡ false
@@ -70,7 +66,7 @@ no-command line covered h e =
 
 pub no-path : (line path tail : List ℕ) (covered : Bool) → length line ≤ 523 → Some (path, tail) ≡ commandOf line → pathForm path ≡ false → Err MailLineForm ≡ mailLine line covered
 no-path line path tail covered h e n =
-    let (f, g) = some-is (ends line && ltb (length (pathOf line)) (length (inner line))) (pathOf line, tailOf line) (path, tail) e in
+    let (f, g) = some-cond (ends line && ltb (length (pathOf line)) (length (inner line))) (pathOf line, tailOf line) (path, tail) e in
     let p : pathForm (pathOf line) ≡ false = ap pathForm (sym (ap (λ (x : List ℕ × List ℕ). x .0) g)) ∙ n in
     no-form line covered h (form-no-path (ends line) _ _ _ p)
 
@@ -90,7 +86,7 @@ by-options o covered mail = by (o .formed) (o .known) (o .«require_tls» .twice
 by-check : (line path tail : List ℕ) (o : Options) (covered : Bool) → length line ≤ 523 → Some (path, tail) ≡ commandOf line → pathForm path ≡ true → o ≡ optionsIn tail →
     after (checked o covered) (record { path = path; place = 11; requireTls = o .«require_tls» .once }) ≡ mailLine line covered
 by-check line path tail o covered h e p i =
-    let (f, g) = some-is (ends line && ltb (length (pathOf line)) (length (inner line))) (pathOf line, tailOf line) (path, tail) e in
+    let (f, g) = some-cond (ends line && ltb (length (pathOf line)) (length (inner line))) (pathOf line, tailOf line) (path, tail) e in
     let a : path ≡ pathOf line = ap (λ (x : List ℕ × List ℕ). x .0) g in
     let b : tail ≡ tailOf line = ap (λ (x : List ℕ × List ℕ). x .1) g in
     let q : pathForm (pathOf line) ≡ true = ap pathForm (sym a) ∙ p in

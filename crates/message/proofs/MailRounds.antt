@@ -1,8 +1,8 @@
 -- A MAIL line written and read back, and one read and written again.
 use Prim.Native.Nat.{ℕ, _≤_}
-use mathlib.Core.Bool.{Bool, true, false, not, cond, _&&_}
-use mathlib.Core.List.{List, _++_}
-use mathlib.Core.Path.{_≡_, refl, sym, ap, subst, _∙_}
+use mathlib.Core.Bool.{Bool, true, false, not, cond}
+use mathlib.Core.List.{List}
+use mathlib.Core.Path.{_≡_, refl, sym, ap, _∙_}
 use native.Mathlib.Omega.{arith}
 use lib.Dec.{leb, ltb}
 use lib.ListN.{length, take, drop}
@@ -13,7 +13,7 @@ use Rattle.std.specs.declared.result.Result.the-variants.{Ok, Err}
 use Rattle.smtp.specs.declared.refusal.Refusal.{Refusal}
 use Rattle.smtp.specs.declared.refusal.Refusal.the-variants.{BadAddress, ShortBuffer}
 use Rattle.message.specs.MailLines.{pathForm, Mail, mailLine, written, writing, atFront, bufferAfter}
-use Rattle.message.specs.MailLinesHold.{PathText, Ours, roundTrip, againIn, againAfter}
+use Rattle.message.specs.MailLinesHold.{Ours, roundTrip, againIn, againAfter}
 use Rattle.message.proofs.MailTexts.{text-path, path-text}
 use Rattle.message.proofs.MailWriting.{accepted, filled}
 use Rattle.message.proofs.MailLaws.{read-back, ours-written}

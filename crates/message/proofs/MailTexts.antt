@@ -1,20 +1,20 @@
 -- Words, paths and options as texts: what they lack, and how a text falls into parts again.
-use Prim.Native.Nat.{ℕ, suc, _+_, _≤_, _<_}
-use mathlib.Core.Bool.{Bool, true, false, not, cond, _&&_, _||_}
-use mathlib.Core.List.{List, [], _∷_, _++_, map}
-use mathlib.Core.Logic.{_⊎_, inl, inr}
+use Prim.Native.Nat.{ℕ, _+_, _≤_, _<_}
+use mathlib.Core.Bool.{Bool, true, false, not, _&&_}
+use mathlib.Core.List.{List, [], _∷_, _++_}
+use mathlib.Core.Logic.{inl, inr}
 use mathlib.Core.Path.{_≡_, refl, sym, ap, _∙_}
 use native.Mathlib.Omega.{arith}
-use lib.Dec.{leb, ltb, eqb}
-use lib.ListN.{length, take, drop}
+use lib.Dec.{leb, eqb}
+use lib.ListN.{length}
 use Rattle.std.proofs.shelf.Ways.{tells, decides-and, decides-by-and}
 use Rattle.std.proofs.shelf.Tests.{true≢false, and-parts, and-from, leb-true, le-leb, eqb-true, eq-eqb, or-cases, or-right, cases-bool}
 use Rattle.std.proofs.shelf.Lists.{append-nil, nil-from-length}
 use Rattle.std.specs.Orderings.{Decides}
 use Rattle.std.specs.shelf.Lists.{All, joined}
-use Rattle.smtp.specs.Bytes.{within, lowered, same, all, some}
-use Rattle.smtp.specs.Parts.{firstPart, otherParts, parts, behindFirst}
-use Rattle.smtp.specs.Names.{atomByte, labelByte, word, dotted, hostName, address}
+use Rattle.smtp.specs.Bytes.{within, lowered, same, all}
+use Rattle.smtp.specs.Parts.{firstPart, otherParts, behindFirst}
+use Rattle.smtp.specs.Names.{atomByte, labelByte, dotted, hostName, address}
 use Rattle.smtp.proofs.Named.{runs, runs-dotted}
 use Rattle.message.specs.MailLines.{pathForm, optionForm}
 use Rattle.message.specs.MailLinesHold.{Alike, PathText, OptionText}

@@ -1,20 +1,18 @@
 -- A MAIL line written part by part into a buffer.
-use Prim.Native.Nat.{ℕ, suc, _+_, _≤_, _<_}
-use mathlib.Core.Bool.{Bool, true, false, not, cond, _&&_, _||_}
+use Prim.Native.Nat.{ℕ, suc, _+_, _≤_}
+use mathlib.Core.Bool.{Bool, true, false, not, cond, _&&_}
 use mathlib.Core.List.{List, [], _∷_, _++_}
 use mathlib.Core.Path.{_≡_, refl, sym, ap, _∙_}
 use native.Mathlib.Omega.{arith}
 use lib.Dec.{leb, ltb, eqb}
-use lib.ListN.{length, take, drop}
+use lib.ListN.{length}
 use lib.Seq.{paste}
 use Rattle.std.proofs.shelf.Ways.{tells}
 use Rattle.std.proofs.shelf.Tests.{true≢false, and-parts, leb-true, eqb-true, or-cases, le-ltb, le-leb}
 use mathlib.Core.Logic.{inl, inr}
 use Rattle.std.proofs.shelf.Lists.{length-append, append-assoc}
 use Rattle.std.proofs.shelf.Edits.{paste-paste, paste-all}
-use Rattle.std.specs.declared.result.Result.{Result}
 use Rattle.std.specs.declared.result.Result.the-variants.{Ok, Err}
-use Rattle.smtp.specs.declared.refusal.Refusal.{Refusal}
 use Rattle.smtp.specs.declared.refusal.Refusal.the-variants.{BadAddress, ShortBuffer}
 use Rattle.smtp.specs.Parts.{firstPart, behindFirst}
 use Rattle.smtp.specs.Names.{atomByte, labelByte, dotted, hostName, address}

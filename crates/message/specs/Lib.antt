@@ -3,6 +3,7 @@ pub mod ContentHold
 pub mod Lines
 pub mod MailLines
 pub mod MailLinesHold
+pub mod MailLinesShown
 pub mod MailParts
 pub mod Stuffing
 pub mod StuffingHold

@@ -1,6 +1,6 @@
 -- MAIL lines (RFC 5321 section 4.1.1.2, RFC 8689 section 2): when one is accepted, what it says, and how we write one.
 use Prim.Native.Nat.{ℕ, _-_}
-use mathlib.Core.Bool.{Bool, true, false, not, cond, _&&_, _||_}
+use mathlib.Core.Bool.{Bool, false, not, cond, _&&_, _||_}
 use mathlib.Core.List.{List, [], _∷_, _++_}
 use lib.Chars.{codes}
 use lib.Dec.{leb, ltb, eqb}

@@ -16,10 +16,10 @@ use Rattle.smtp.specs.Parts.{firstPart, otherParts}
 use Rattle.smtp.specs.Replies.{crlfFirst}
 use Rattle.message.specs.declared.mail_line.MailLine.{MailLine}
 use Rattle.message.specs.declared.mail_line.Command.{Command}
-use Rattle.message.specs.declared.mail_line.Kind.{Kind}
-use Rattle.message.specs.declared.mail_line.Kind.the-variants.{Digit, Visible}
-use Rattle.message.specs.declared.mail_line.Tally.{Tally}
-use Rattle.message.specs.declared.mail_line.Options.{Options}
+use Rattle.message.specs.declared.mail_options.Kind.{Kind}
+use Rattle.message.specs.declared.mail_options.Kind.the-variants.{Digit, Visible}
+use Rattle.message.specs.declared.mail_options.Tally.{Tally}
+use Rattle.message.specs.declared.mail_options.Options.{Options}
 use Rattle.message.specs.MailLines.{Mail, ends, inner, pathOf, tailOf, optionForm, isKnown, isRequireTls, isSize, isRet, twice}
 
 -- what a line that was read says

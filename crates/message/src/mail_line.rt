@@ -1,24 +1,26 @@
 ghost use mathlib.Core.Path.{_≡_};
-ghost use Prim.Native.Nat.{ℕ, _+_, _-_, _<_, _≤_};
-ghost use mathlib.Core.Bool.{Bool, true, false, not, _&&_, _||_};
-ghost use lib.ListN.{length, take, drop};
+ghost use Prim.Native.Nat.{_+_, _≤_};
+ghost use mathlib.Core.Bool.{true};
+ghost use lib.ListN.{length};
 ghost use lib.Seq.{paste};
 ghost use denote.Ref.{now};
 ghost use Rattle.std.specs.Options.{mapped};
 ghost use Rattle.std.specs.Results.{mapped as answered};
-ghost use Rattle.std.specs.declared.result.Result.the-variants.{Ok, Err};
-ghost use Rattle.message.specs.MailLines.{pathForm, optionForm, isRequireTls, isSize, isRet, mailLine, ending, atFront, writing, bufferAfter};
+ghost use Rattle.std.specs.declared.result.Result.the-variants.{Ok};
+ghost use Rattle.message.specs.MailLines.{pathForm, mailLine, ending, atFront, writing, bufferAfter};
 ghost use Rattle.message.specs.MailLinesHold.{FormHolds, PartsHold, PlaceHolds, ReadBack, Ours, WrittenAgain, roundTrip, againIn, againAfter};
-ghost use Rattle.message.specs.MailParts.{said, kindOf, counted, noneSeen, seen, optionsIn, checked, bodyOf, cut, commandOf};
-use smtp::bytes::ByteKind;
-use smtp::bytes::are_all;
+ghost use Rattle.message.specs.MailLinesShown.{MailLinesShown};
+ghost use Rattle.message.specs.MailParts.{said, bodyOf, cut, commandOf};
+use crate::mail_options::Options;
 use smtp::bytes::from;
-use smtp::bytes::is_digit;
 use smtp::bytes::part_len;
 use smtp::bytes::same_word;
 use smtp::bytes::upto;
 use smtp::names::is_address;
 use smtp::refusal::Refusal;
+
+// The longest MAIL line, its CRLF counted, and the least buffer to write one into.
+const LONGEST: usize = 523;
 
 // What a MAIL line says: the path, as a part of the line, the path's place there, and whether it requires TLS on the whole way.
 #[derive(Clone, Copy)]
@@ -35,158 +37,11 @@ struct Command<'l> {
     tail: &'l [u8],
 }
 
-// How often one option was seen: whether, and whether more than once.
-#[derive(Clone, Copy)]
-struct Tally {
-    once: bool,
-    twice: bool,
-}
-
-// What the options seen so far say: whether each has its form, whether each is known, and how often each was seen.
-#[derive(Clone, Copy)]
-struct Options {
-    formed: bool,
-    known: bool,
-    require_tls: Tally,
-    size: Tally,
-    ret: Tally,
-}
-
 // Whether a path is empty or an address.
 fn is_path(path: &[u8]) -> bool
     ensures { λ r. ⌜ r ≡ pathForm (now (path .entry)) ⌝ }
 {
     path.is_empty() || is_address(path)
-}
-
-// The kinds of bytes that parts of an option are made of.
-#[derive(Clone, Copy)]
-enum Kind {
-    // the digits of a size
-    Digit,
-    // 33 to 126: any byte of an option
-    Visible,
-}
-
-impl ByteKind for Kind as KindByteKind {
-    ghost holds = { kindOf };
-
-    fn has(self, b: u8) -> bool {
-        match self {
-            Kind::Digit => is_digit(b),
-            Kind::Visible => matches!(b, b'!'..=b'~'),
-        }
-    }
-}
-
-// Whether an option is 1 or more bytes of 33 to 126.
-fn is_option(option: &[u8]) -> bool
-    ensures { λ r. ⌜ r ≡ optionForm (now (option .entry)) ⌝ }
-{
-    !option.is_empty() && are_all(option, Kind::Visible)
-}
-
-fn is_require_tls(option: &[u8]) -> bool
-    ensures { λ r. ⌜ r ≡ isRequireTls (now (option .entry)) ⌝ }
-{
-    same_word(option, b"REQUIRETLS")
-}
-
-// Whether an option is SIZE= and 1 to 20 digits.
-fn is_size(option: &[u8]) -> bool
-    ensures { λ r. ⌜ r ≡ isSize (now (option .entry)) ⌝ }
-{
-    let value = from(option, 5);
-    same_word(upto(option, 5), b"SIZE=")
-        && !value.is_empty()
-        && value.len() <= 20
-        && are_all(value, Kind::Digit)
-}
-
-fn is_ret(option: &[u8]) -> bool
-    ensures { λ r. ⌜ r ≡ isRet (now (option .entry)) ⌝ }
-{
-    same_word(option, b"RET=FULL") || same_word(option, b"RET=HDRS")
-}
-
-impl Tally {
-    // The tally with one more option seen, which is this one or another.
-    fn with(self, is: bool) -> Tally
-        ensures { λ r. ⌜ r ≡ counted self is ⌝ }
-    {
-        Tally {
-            once: self.once || is,
-            twice: self.twice || (self.once && is),
-        }
-    }
-}
-
-impl Options {
-    // No option seen, behind a form that is kept so far or not.
-    fn none(formed: bool) -> Options
-        ensures { λ r. ⌜ r ≡ noneSeen formed ⌝ }
-    {
-        let none = Tally {
-            once: false,
-            twice: false,
-        };
-        Options {
-            formed,
-            known: true,
-            require_tls: none,
-            size: none,
-            ret: none,
-        }
-    }
-
-    // The same with one more option seen.
-    fn with(self, option: &[u8]) -> Options
-        ensures { λ r. ⌜ r ≡ seen self (now (option .entry)) ⌝ }
-    {
-        let require_tls = is_require_tls(option);
-        let size = is_size(option);
-        let ret = is_ret(option);
-        Options {
-            formed: self.formed && is_option(option),
-            known: self.known && (require_tls || size || ret),
-            require_tls: self.require_tls.with(require_tls),
-            size: self.size.with(size),
-            ret: self.ret.with(ret),
-        }
-    }
-
-    // Reads what stands behind a path: nothing but options, each after one blank.
-    fn read(tail: &[u8]) -> Options
-        ensures { λ r. ⌜ r ≡ optionsIn (now (tail .entry)) ⌝ }
-    {
-        let first = part_len(tail, b' ');
-        let mut options = Options::none(first == 0);
-        let mut rest = from(tail, first);
-        while !rest.is_empty() {
-            let behind = from(rest, 1);
-            let n = part_len(behind, b' ');
-            options = options.with(upto(behind, n));
-            rest = from(behind, n);
-        }
-        options
-    }
-
-    // The first refusal that the options call for, on a line that came covered by TLS or not.
-    fn check(self, covered: bool) -> Result<(), Refusal>
-        ensures { λ r. ⌜ r ≡ checked self covered ⌝ }
-    {
-        if !self.formed {
-            Err(Refusal::MailLineForm)
-        } else if !self.known {
-            Err(Refusal::UnknownOption)
-        } else if self.require_tls.twice || self.size.twice || self.ret.twice {
-            Err(Refusal::RepeatedOption)
-        } else if self.require_tls.once && !covered {
-            Err(Refusal::RequireTlsInClear)
-        } else {
-            Ok(())
-        }
-    }
 }
 
 // A line without its CRLF; none where it does not end in one.
@@ -225,7 +80,7 @@ impl<'l> MailLine<'l> {
     pub fn read(line: &'l [u8], covered: bool) -> Result<MailLine<'l>, Refusal>
         ensures { λ r. ⌜ answered said (λ e. e) r ≡ mailLine (now (line .entry)) covered ⌝ }
     {
-        if line.len() > 523 {
+        if line.len() > LONGEST {
             return Err(Refusal::MailLineTooLong);
         }
         let Some(command) = Command::read(line) else {
@@ -296,7 +151,7 @@ pub fn write_mail_line(path: &[u8], require_tls: bool, out: &mut [u8]) -> Result
     if !is_path(path) {
         return Err(Refusal::BadAddress);
     }
-    if out.len() < 523 {
+    if out.len() < LONGEST {
         return Err(Refusal::ShortBuffer);
     }
     let at = put(out, 0, b"MAIL FROM:<");
@@ -315,7 +170,7 @@ pub fn mail_round_trip(path: &[u8], require_tls: bool, out: &mut [u8]) -> Result
 }
 
 // Reads a line that came covered and writes it again from what was read: one in our written form comes out as the same bytes.
-pub fn mail_again(line: &[u8], out: &mut [u8]) -> Result<usize, Refusal>
+pub fn rewrite_mail_line(line: &[u8], out: &mut [u8]) -> Result<usize, Refusal>
     ensures answer { λ r. ⌜ r ≡ againIn (mailLine (now (line .entry)) true) (length (now (out .entry))) ⌝ }
     ensures buffer { λ r. ⌜ now (out .exit) ≡ againAfter (mailLine (now (line .entry)) true) (now (out .entry)) ⌝ }
     ensures same { λ r. ⌜ (Ours (now (line .entry)) → 523 ≤ length (now (out .entry)) → (r ≡ Ok (length (now (line .entry)))) × (now (out .exit) ≡ atFront (now (line .entry)) (now (out .entry)))) ⌝ }
@@ -331,6 +186,7 @@ pub fn mail_lines_hold() -> u8
     ensures place { λ _. ⌜ PlaceHolds ⌝ }
     ensures back { λ _. ⌜ ReadBack ⌝ }
     ensures again { λ _. ⌜ WrittenAgain ⌝ }
+    ensures shown { λ _. ⌜ MailLinesShown ⌝ }
 {
     0
 }

@@ -7,6 +7,7 @@ use lib.ListN.{length}
 use Rattle.std.specs.declared.result.Result.the-variants.{Ok, Err}
 use Rattle.std.proofs.shelf.Results.{err-from-errBy}
 use Rattle.std.proofs.shelf.Equals.{matches-decides}
+use Rattle.message.specs.MailLines.{writing}
 use Rattle.message.specs.MailParts.{said}
 use Rattle.message.proofs.MailRounds.{trip-err, trip-ok, trip-never, trip-says}
 use Rattle.message.proofs.mail_line.mail_round_trip.Needs as need
@@ -21,7 +22,8 @@ pub returns-in-Break-n : need.returns-in-Break-n
 returns-in-Break-n c =
     let (d, f, g) = err-from-errBy (c .from-residual .result) (c .from-residual .ensures .1) in
     let h = c .in-Break-n .ensures tt in
-    record { answer = f ∙ trip-err (c .args .path .now) (c .args .require-tls) (length (c .args .out .now)) d (ap Err g ∙ h .answer); buffer = h .buffer }
+    let e : Err d ≡ writing (c .args .path .now) (c .args .require-tls) (length (c .args .out .now)) = rw g (h .answer) in
+    record { answer = f ∙ trip-err (c .args .path .now) (c .args .require-tls) (length (c .args .out .now)) d e; buffer = h .buffer }
 
 pub returns-in-Break-line : need.returns-in-Break-line
 returns-in-Break-line c =

@@ -1,5 +1,5 @@
 use native.Mathlib.Omega.{arith}
-use mathlib.Core.Path.{sym, ap, _∙_}
+use mathlib.Core.Path.{sym, ap}
 use denote.Ref.{now}
 use lib.ListN.{length}
 use Rattle.message.proofs.MailWriting.{path-length, ending-length, write-is}
@@ -18,5 +18,5 @@ put-requires c κs =
 pub returns : need.returns
 returns c =
     write-is (c .args .out .now) (c .args .path .now) (c .put-at .last .out) (c .put-at-2 .last .out) (c .put .last .out) (now (c .ending .result)) (c .args .require-tls)
-    (c .put-at .result) (c .put-at-2 .result) (c .put .result) (sym (c .if-not-is-path .ensures tt)) (c .if-out-lt523 .left) (c .ending .ensures)
+    (c .put-at .result) (c .put-at-2 .result) (c .put .result) (sym (c .if-not-is-path .ensures tt)) (c .if-out-lt-LONGEST .left) (c .ending .ensures)
     (c .put-at .ensures .buffer) (c .put-at .ensures .end) (c .put-at-2 .ensures .buffer) (c .put-at-2 .ensures .end) (c .put .ensures .buffer) (c .put .ensures .end)

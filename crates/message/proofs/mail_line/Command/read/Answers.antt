@@ -1,7 +1,4 @@
 use mathlib.Core.Path.{sym, ap, _∙_}
-use lib.ListN.{take, drop, length}
-use native.Mathlib.Omega.{arith}
-use mathlib.Core.Path.{_≡_}
 use denote.Ref.{now}
 use Rattle.smtp.specs.Bytes.{same}
 use Rattle.message.proofs.MailParted.{no-words, no-close, command-is}

@@ -7,8 +7,8 @@ use denote.Ref.{now}
 use Rattle.std.proofs.shelf.Ways.{tells}
 use Rattle.smtp.specs.Parts.{firstPart, otherParts, fromFirst}
 use Rattle.smtp.proofs.Parted.{take-first, drop-first}
-use Rattle.message.proofs.MailOptions.{over, over-more, over-end, first-empty, others-from}
-use Rattle.message.proofs.mail_line.Options.read.Needs as need
+use Rattle.message.proofs.MailOptions.{over-more, over-end, first-empty, others-from}
+use Rattle.message.proofs.mail_options.Options.read.Needs as need
 
 pub loop-rest-holds : need.loop-rest-holds
 loop-rest-holds c =

@@ -4,7 +4,7 @@ use lib.ListN.{length}
 use Rattle.smtp.specs.Parts.{firstPart, otherParts}
 use Rattle.message.specs.MailParts.{noneSeen}
 use Rattle.message.proofs.MailOptions.{over}
-use Rattle.message.proofs.mail_line.Options.read.Given as given
+use Rattle.message.proofs.mail_options.Options.read.Given as given
 
 abbrev pub Inv-loop-rest : given.InvT-loop-rest
 Inv-loop-rest l =

@@ -1,8 +1,0 @@
-use native.Mathlib.Omega.{arith}
-use mathlib.Core.Path.{ap}
-use Rattle.std.proofs.shelf.Ways.{tells}
-use Rattle.smtp.specs.Bytes.{all, digit}
-use Rattle.message.proofs.mail_line.is_size.Needs as need
-
-pub returns-then-value-le20 : need.returns-then-value-le20
-returns-then-value-le20 c = let e = ap (all digit) (c .from-value .ensures .is) in grind (arith, tells)
