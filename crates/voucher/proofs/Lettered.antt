@@ -1,5 +1,5 @@
 -- Names in small letters: what does not depend on the case of a name's letters.
-use Prim.Native.Nat.{ℕ, suc, _+_}
+use Prim.Native.Nat.{ℕ, _+_}
 use mathlib.Core.Bool.{Bool, true, false, cond, _&&_, _||_}
 use mathlib.Core.List.{List, [], _∷_}
 use mathlib.Core.Path.{_≡_, refl, sym, ap, _∙_}
@@ -9,7 +9,7 @@ use lib.ListN.{length}
 use Rattle.std.proofs.shelf.Ways.{tells}
 use Rattle.std.proofs.shelf.Lists.{length-map}
 use Rattle.std.proofs.shelf.Tests.{and-parts, eqb-true}
-use Rattle.smtp.specs.Bytes.{lowered, same, within}
+use Rattle.smtp.specs.Bytes.{lowered, same}
 use Rattle.smtp.specs.Names.{labelByte, dotted, hostName, wild, covered, coversName}
 use Rattle.smtp.specs.Parts.{fromFirst}
 use Rattle.smtp.proofs.Named.{runs, runs-dotted}

@@ -1,7 +1,7 @@
 -- What holds of every voucher, and the definitions at examples: the policies that RFC 8461 prints, and what their form turns down.
 use Prim.Native.Nat.{ℕ, _<_}
 use Prim.Native.String.{String}
-use mathlib.Core.Bool.{Bool, true, false, not, _&&_, _||_}
+use mathlib.Core.Bool.{Bool, true, false, not, _||_}
 use mathlib.Core.List.{List, [], _∷_, _++_}
 use mathlib.Core.Path.{_≡_}
 use lib.Chars.{codes}

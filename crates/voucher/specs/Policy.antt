@@ -70,7 +70,8 @@ abbrev pub withMx : Bool → Option Mode → Option Mode
 withMx mx None = None
 withMx mx (Some m) = cond (mx || not (needsMx m)) (Some m) None
 
--- the mode of a policy's lines; none where they are no policy
+-- the mode of a policy's lines: each is well formed, `version` is STSv1, there is a `max_age` and a `mode`, and an `mx` where the mode needs one;
+-- none where they are no policy
 abbrev pub modeOf : List (List ℕ) → Option Mode
 modeOf ls =
     cond
@@ -87,7 +88,7 @@ abbrev pub readAs : List ℕ → Option Mode → Result (List ℕ × Mode) Refus
 readAs text None = Err BadPolicy
 readAs text (Some m) = Ok (text, m)
 
-abbrev pub readPolicy : List ℕ → Result (List ℕ × Mode) Refusal
+unfoldable pub readPolicy : List ℕ → Result (List ℕ × Mode) Refusal
 readPolicy text = readAs text (policyMode text)
 
 -- a policy as the reader hands it out

@@ -1,5 +1,4 @@
 use Prim.Native.Nat.{ℕ, _+_}
-use mathlib.Core.List.{List}
 use mathlib.Core.Path.{ap, _∙_}
 use lib.ListN.{drop}
 use Rattle.smtp.proofs.Parted.{drop-behind}

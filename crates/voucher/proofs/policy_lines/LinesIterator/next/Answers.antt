@@ -1,9 +1,6 @@
 use borrow.Author.Needs.{needs}
 use native.Mathlib.Omega.{arith}
-use mathlib.Core.Path.{_≡_, ap, _∙_, sym}
-use mathlib.Core.List.{List, _∷_}
-use Prim.Native.Nat.{ℕ}
-use denote.Ref.{now}
+use mathlib.Core.Path.{ap}
 use Rattle.std.proofs.shelf.Ways.{tells}
 use Rattle.voucher.specs.PolicyLines.{lines, withoutCr}
 use Rattle.voucher.proofs.Lined.{lines-more, lines-last, lines-none}
