@@ -1,16 +1,15 @@
 -- The form of content, byte by byte.
 use Prim.Native.Nat.{ℕ, _+_, _<_, _≤_}
 use mathlib.Core.Bool.{Bool, true, false, cond}
-use mathlib.Core.List.{List, [], _∷_}
+use mathlib.Core.List.{List, _∷_}
 use mathlib.Core.Path.{_≡_, refl, sym, ap, _∙_}
 use native.Mathlib.Omega.{arith}
-use lib.Dec.{leb, ltb, eqb}
+use lib.Dec.{ltb, eqb}
 use lib.ListN.{length, getD, drop}
 use Rattle.std.proofs.shelf.Lists.{drop-more, drop-all, at-drop-all, getD-past}
 use mathlib.Core.Logic.{inl, inr}
 use Rattle.std.proofs.shelf.Ways.{tells}
 use Rattle.std.proofs.shelf.Tests.{cases-lt}
-use Rattle.std.specs.declared.result.Result.{Result}
 use Rattle.std.specs.declared.result.Result.the-variants.{Ok, Err}
 use Rattle.smtp.specs.declared.refusal.Refusal.{Refusal}
 use Rattle.smtp.specs.declared.refusal.Refusal.the-variants.{BadContent}

@@ -1,14 +1,14 @@
 -- What has the form is lines one after the other, and such lines have it.
-use Prim.Native.Nat.{ℕ, suc, _+_, _≤_, _<_}
+use Prim.Native.Nat.{ℕ, _+_, _≤_}
 use mathlib.Core.Bool.{Bool, true, false, cond}
 use mathlib.Core.List.{List, [], _∷_, _++_}
 use mathlib.Core.Logic.{_⊎_, inl, inr}
-use mathlib.Core.Path.{_≡_, refl, sym, ap, subst, _∙_}
+use mathlib.Core.Path.{_≡_, refl, sym, ap, _∙_}
 use native.Mathlib.Omega.{arith}
 use lib.Dec.{leb, ltb, eqb}
 use lib.ListN.{length}
 use Rattle.std.proofs.shelf.Ways.{tells}
-use Rattle.std.proofs.shelf.Tests.{cases-bool, true≢false, eqb-true, ltb-true, leb-true, le-leb, and-parts, and-from}
+use Rattle.std.proofs.shelf.Tests.{true≢false, eqb-true, ltb-true, leb-true, le-leb, and-parts, and-from}
 use Rattle.message.specs.Content.{plain, linesFrom, wellFormed}
 use Rattle.message.specs.ContentHold.{AllPlain, AllLines, ended, InLines, ContentHolds}
 use Rattle.message.proofs.Headed.{header-take}

@@ -1,13 +1,12 @@
 -- The header, line by line.
-use Prim.Native.Nat.{ℕ, _+_, _<_, _≤_}
+use Prim.Native.Nat.{ℕ, _+_, _≤_}
 use mathlib.Core.Bool.{Bool, true, false, cond}
 use mathlib.Core.List.{List, [], _∷_, _++_}
 use mathlib.Core.Path.{_≡_, refl, sym, ap, _∙_}
-use native.Mathlib.Omega.{arith}
 use lib.ListN.{length, take, drop, length-append}
 use Rattle.std.proofs.shelf.Lists.{at-drop-all}
 use lib.Seq.{take-append-add}
-use Rattle.message.specs.Lines.{linesOf, joined, firstLine, emptyLine, beforeEmpty, header}
+use Rattle.message.specs.Lines.{linesOf, joined, emptyLine, beforeEmpty, header}
 use Rattle.message.proofs.Lined.{joined-lines}
 
 cond-length : (b : Bool) (l : List ℕ) (ls : List (List ℕ)) → length (joined (cond b [] (l ∷ ls))) ≡ cond b 0 (length l + length (joined ls))

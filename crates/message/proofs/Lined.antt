@@ -1,11 +1,9 @@
 -- The lines of a text, the first apart from those behind it.
-use Prim.Native.Nat.{ℕ, suc, _+_, _<_, _≤_, min}
-use mathlib.Core.Bool.{Bool, true, false, cond}
-use mathlib.Core.List.{List, [], _∷_, _++_}
-use mathlib.Core.Path.{_≡_, refl, sym, ap, _∙_}
+use Prim.Native.Nat.{ℕ, suc, _+_, _<_, _≤_}
+use mathlib.Core.List.{List, [], _∷_}
+use mathlib.Core.Path.{_≡_, refl, ap, _∙_}
 use native.Mathlib.Omega.{arith}
 use native.Mathlib.Numerals.{add-one}
-use lib.Dec.{eqb}
 use lib.ListN.{length, take, drop}
 use Rattle.std.proofs.shelf.Ways.{tells}
 use Rattle.std.proofs.shelf.Lists.{drop-drop, length-drop}
@@ -20,7 +18,7 @@ first-longer : (x : ℕ) (ls : List (List ℕ)) → firstOf (longer x ls) ≡ x 
 first-longer x [] = refl
 first-longer x (l ∷ ls) = refl
 
-rest-longer : (x : ℕ) (ls : List (List ℕ)) → restOf (longer x ls) ≡ restOf ls
+pub rest-longer : (x : ℕ) (ls : List (List ℕ)) → restOf (longer x ls) ≡ restOf ls
 rest-longer x [] = refl
 rest-longer x (l ∷ ls) = refl
 

@@ -1,33 +1,28 @@
 -- Dot-stuffing byte by byte, and how it is laid into a buffer.
-use Prim.Native.Nat.{ℕ, suc, _+_, _*_, _<_, _≤_}
+use Prim.Native.Nat.{ℕ, suc, _+_, _<_, _≤_}
 use mathlib.Core.Bool.{Bool, true, false, cond, _&&_}
 use mathlib.Core.List.{List, [], _∷_, _++_}
 use mathlib.Core.Logic.{_⊎_, inl, inr}
 use mathlib.Core.Path.{_≡_, refl, sym, ap, subst, _∙_}
 use native.Mathlib.Omega.{arith}
-use native.Mathlib.Numerals.{add-one}
 use lib.Dec.{eqb}
-use lib.ListN.{length, getD, set, take, drop, length-append, length-drop, length-take}
+use lib.ListN.{length, getD, set, take, drop, length-drop, length-take}
 use Rattle.std.proofs.shelf.Ways.{tells}
-use Rattle.std.proofs.shelf.Lists.{at-drop-more, at-drop-all, drop-more, take-more, take-all, drop-all, set-at, append-assoc}
+use Rattle.std.proofs.shelf.Lists.{at-drop-more, at-drop-all, drop-more, take-more, take-all, set-at, append-assoc}
 use Rattle.message.specs.Lines.{longer, linesOf, joined}
-use Rattle.message.specs.Stuffing.{dotFirst, dotted, dots, dotLine, stuffed, stuffedLen}
-use Rattle.message.proofs.Lined.{restOf}
+use Rattle.message.specs.Stuffing.{stuffedLines, dotStarts, dotLine, stuffed, stuffedLen}
+use Rattle.message.proofs.Lined.{restOf, rest-longer}
 
 -- how many lines begin with a dot, at a line's start or behind it
 abbrev pub dotsFrom : Bool → List ℕ → ℕ
 dotsFrom start [] = 0
 dotsFrom start (x ∷ s) = cond (start && eqb x 46) (suc (dotsFrom (eqb x 10) s)) (dotsFrom (eqb x 10) s)
 
-dots-longer : (x : ℕ) (ls : List (List ℕ)) → dots (longer x ls) ≡ cond (eqb x 46) (suc (dots (restOf ls))) (dots (restOf ls))
+dots-longer : (x : ℕ) (ls : List (List ℕ)) → dotStarts (longer x ls) ≡ cond (eqb x 46) (suc (dotStarts (restOf ls))) (dotStarts (restOf ls))
 dots-longer x [] = refl
 dots-longer x (l ∷ ls) = refl
 
-rest-longer : (x : ℕ) (ls : List (List ℕ)) → restOf (longer x ls) ≡ restOf ls
-rest-longer x [] = refl
-rest-longer x (l ∷ ls) = refl
-
-dots-both : (s : List ℕ) → (dotsFrom true s ≡ dots (linesOf s)) × (dotsFrom false s ≡ dots (restOf (linesOf s)))
+dots-both : (s : List ℕ) → (dotsFrom true s ≡ dotStarts (linesOf s)) × (dotsFrom false s ≡ dotStarts (restOf (linesOf s)))
 dots-both [] = (refl, refl)
 dots-both (x ∷ s) =
     let (a, b) = dots-both s in
@@ -35,7 +30,7 @@ dots-both (x ∷ s) =
     let f = rest-longer x (linesOf s) in
     (grind (arith, tells), grind (arith, tells))
 
-pub dots-from : (s : List ℕ) → dotsFrom true s ≡ dots (linesOf s)
+pub dots-from : (s : List ℕ) → dotsFrom true s ≡ dotStarts (linesOf s)
 dots-from s = dots-both s .0
 
 pub dots-more : (start : Bool) (s : List ℕ) (i : ℕ) → i < length s →
@@ -53,9 +48,9 @@ stuffFrom start (x ∷ s) = cond (start && eqb x 46) (46 ∷ x ∷ stuffFrom (eq
 -- the first line as it is, the others stuffed
 abbrev behind : List (List ℕ) → List ℕ
 behind [] = []
-behind (l ∷ ls) = l ++ joined (dotted ls)
+behind (l ∷ ls) = l ++ joined (stuffedLines ls)
 
-dotted-longer : (x : ℕ) (ls : List (List ℕ)) → joined (dotted (longer x ls)) ≡ cond (eqb x 46) (46 ∷ x ∷ behind ls) (x ∷ behind ls)
+dotted-longer : (x : ℕ) (ls : List (List ℕ)) → joined (stuffedLines (longer x ls)) ≡ cond (eqb x 46) (46 ∷ x ∷ behind ls) (x ∷ behind ls)
 dotted-longer x [] = grind (arith, tells)
 dotted-longer x (l ∷ ls) = grind (arith, tells)
 
@@ -63,7 +58,7 @@ behind-longer : (x : ℕ) (ls : List (List ℕ)) → behind (longer x ls) ≡ x 
 behind-longer x [] = refl
 behind-longer x (l ∷ ls) = refl
 
-stuff-both : (s : List ℕ) → (stuffFrom true s ≡ joined (dotted (linesOf s)) ++ dotLine) × (stuffFrom false s ≡ behind (linesOf s) ++ dotLine)
+stuff-both : (s : List ℕ) → (stuffFrom true s ≡ joined (stuffedLines (linesOf s)) ++ dotLine) × (stuffFrom false s ≡ behind (linesOf s) ++ dotLine)
 stuff-both [] = (refl, refl)
 stuff-both (x ∷ s) =
     let (a, b) = stuff-both s in

@@ -6,8 +6,7 @@ use mathlib.Core.Path.{_≡_, refl, sym, ap, subst, _∙_}
 use native.Mathlib.Omega.{arith}
 use lib.ListN.{length, getD, take, drop, length-drop, length-take}
 use lib.Seq.{take-add}
-use Rattle.std.proofs.shelf.Ways.{tells}
-use Rattle.std.proofs.shelf.Lists.{at-drop-more, at-drop-all, drop-drop, drop-all, drop-more, append-assoc}
+use Rattle.std.proofs.shelf.Lists.{at-drop-all, drop-drop, drop-all, drop-more, append-assoc}
 use Rattle.std.proofs.shelf.Tests.{true≢false}
 use Rattle.std.specs.Options.{isSome}
 use Rattle.std.specs.declared.option.Option.{Option}

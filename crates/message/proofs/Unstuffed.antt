@@ -1,6 +1,6 @@
 -- Well-formed content as lines: how many may begin with a dot, and that unstuffing gives them back.
-use Prim.Native.Nat.{ℕ, suc, _+_, _*_, _<_, _≤_}
-use mathlib.Core.Bool.{Bool, true, false, cond, _&&_}
+use Prim.Native.Nat.{ℕ, _+_, _*_, _≤_}
+use mathlib.Core.Bool.{Bool, true, false, cond}
 use mathlib.Core.List.{List, [], _∷_, _++_}
 use mathlib.Core.Path.{_≡_, refl, sym, ap, _∙_}
 use native.Mathlib.Omega.{arith}
@@ -9,10 +9,10 @@ use lib.ListN.{length, length-append}
 use Rattle.std.proofs.shelf.Lists.{append-assoc}
 use Rattle.std.proofs.shelf.Ways.{tells}
 use Rattle.smtp.specs.Bytes.{same}
-use Rattle.message.specs.Lines.{longer, linesOf, joined}
+use Rattle.message.specs.Lines.{linesOf, joined}
 use Rattle.message.specs.Content.{plain, wellFormed}
 use Rattle.message.specs.ContentHold.{AllPlain, AllLines, ended}
-use Rattle.message.specs.Stuffing.{dotFirst, dotted, dots, dotLine, stuffed, stuffedLen, withoutDot, undotted, unstuffed}
+use Rattle.message.specs.Stuffing.{dotFirst, stuffedLines, dotStarts, dotLine, stuffed, stuffedLen, withoutDot, unstuffedLines, unstuffed}
 use Rattle.message.specs.StuffingHold.{StuffingHolds}
 use Rattle.message.proofs.FormedLines.{in-lines}
 use Rattle.message.proofs.Lined.{joined-lines}
@@ -51,7 +51,7 @@ lines-ended [] p = refl
 lines-ended (l ∷ ls) p = line-front l (ended ls) (p .0) ∙ ap (λ (ms : List (List ℕ)). crlf l ∷ ms) (lines-ended ls (p .1))
 
 -- a line that begins with a dot has three bytes or more
-dots-few : (ls : List (List ℕ)) → 3 * dots (crlfs ls) ≤ length (ended ls)
+dots-few : (ls : List (List ℕ)) → 3 * dotStarts (crlfs ls) ≤ length (ended ls)
 dots-few [] = omega arith
 dots-few ([] ∷ ls) = let e = dots-few ls in omega arith
 dots-few ((x ∷ l) ∷ ls) =
@@ -71,7 +71,7 @@ doubled-crlf : (l : List ℕ) → cond (dotFirst (crlf l)) (46 ∷ crlf l) (crlf
 doubled-crlf [] = refl
 doubled-crlf (x ∷ l) = grind (arith, tells)
 
-dotted-crlfs : (ls : List (List ℕ)) → dotted (crlfs ls) ≡ crlfs (doubles ls)
+dotted-crlfs : (ls : List (List ℕ)) → stuffedLines (crlfs ls) ≡ crlfs (doubles ls)
 dotted-crlfs [] = refl
 dotted-crlfs (l ∷ ls) = let e = dotted-crlfs ls in let f = doubled-crlf l in cc
 
@@ -97,14 +97,14 @@ undoubled : (l : List ℕ) → (same (crlf (doubled l)) dotLine ≡ false) × (w
 undoubled [] = (refl, refl)
 undoubled (x ∷ l) = (grind (arith, tells), grind (arith, tells))
 
-undotted-crlfs : (ls : List (List ℕ)) → undotted (crlfs (doubles ls) ++ dotLine ∷ []) ≡ crlfs ls
+undotted-crlfs : (ls : List (List ℕ)) → unstuffedLines (crlfs (doubles ls) ++ dotLine ∷ []) ≡ crlfs ls
 undotted-crlfs [] = refl
 undotted-crlfs (l ∷ ls) = let (e, f) = undoubled l in simp (e, f, undotted-crlfs ls)
 
-lines-back : (ls : List (List ℕ)) → Plains ls → undotted (linesOf (joined (dotted (crlfs ls)) ++ dotLine)) ≡ crlfs ls
+lines-back : (ls : List (List ℕ)) → Plains ls → unstuffedLines (linesOf (joined (stuffedLines (crlfs ls)) ++ dotLine)) ≡ crlfs ls
 lines-back ls p =
-    ap (λ (ms : List (List ℕ)). undotted (linesOf (joined ms ++ dotLine))) (dotted-crlfs ls)
-    ∙ (ap undotted (lines-joined (doubles ls) dotLine (plain-doubles ls p)) ∙ undotted-crlfs ls)
+    ap (λ (ms : List (List ℕ)). unstuffedLines (linesOf (joined ms ++ dotLine))) (dotted-crlfs ls)
+    ∙ (ap unstuffedLines (lines-joined (doubles ls) dotLine (plain-doubles ls p)) ∙ undotted-crlfs ls)
 
 -- the lines of well-formed content
 formed : (s : List ℕ) → wellFormed s ≡ true → (length s ≤ 32768) × ((ls : List (List ℕ)) × Plains ls × (s ≡ ended ls) × (linesOf s ≡ crlfs ls))
@@ -120,14 +120,14 @@ most s w =
     let (ls, p, e, f) = i in
     let a = dots-few ls in
     let b = ap length e in
-    let d = ap dots f in
+    let d = ap dotStarts f in
     omega arith
 
 back : (s : List ℕ) → wellFormed s ≡ true → unstuffed (stuffed s) ≡ s
 back s w =
     let (n, i) = formed s w in
     let (ls, p, e, f) = i in
-    ap (λ (ms : List (List ℕ)). joined (undotted (linesOf (joined (dotted ms) ++ dotLine)))) f
+    ap (λ (ms : List (List ℕ)). joined (unstuffedLines (linesOf (joined (stuffedLines ms) ++ dotLine)))) f
     ∙ (ap joined (lines-back ls p ∙ sym f) ∙ joined-lines s)
 
 pub stuffing-holds : StuffingHolds

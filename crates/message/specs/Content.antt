@@ -1,6 +1,6 @@
 -- The form of content and header sections (RFC 5322 section 2.1): bytes of 1 to 127 in lines of at most 998 and CRLF, at most 32,768 in all.
 use Prim.Native.Nat.{ℕ, _+_}
-use mathlib.Core.Bool.{Bool, true, false, not, cond, _&&_}
+use mathlib.Core.Bool.{Bool, false, not, cond, _&&_}
 use mathlib.Core.List.{List, [], _∷_}
 use lib.Dec.{leb, ltb, eqb}
 use lib.ListN.{length}

@@ -1,6 +1,6 @@
 -- Dot-stuffing (RFC 5321 section 4.5.2): a line that begins with a dot gets one more in front, and a line of a single dot ends it all.
-use Prim.Native.Nat.{ℕ, suc, _+_, _-_}
-use mathlib.Core.Bool.{Bool, true, false, cond, _&&_}
+use Prim.Native.Nat.{ℕ, suc, _+_}
+use mathlib.Core.Bool.{Bool, false, cond, _&&_}
 use mathlib.Core.List.{List, [], _∷_, _++_}
 use lib.Dec.{leb, eqb}
 use lib.ListN.{length, drop}
@@ -17,25 +17,25 @@ dotFirst [] = false
 dotFirst (x ∷ l) = eqb x 46
 
 -- each line that begins with a dot gets one more in front
-abbrev pub dotted : List (List ℕ) → List (List ℕ)
-dotted [] = []
-dotted (l ∷ ls) = cond (dotFirst l) (46 ∷ l) l ∷ dotted ls
+abbrev pub stuffedLines : List (List ℕ) → List (List ℕ)
+stuffedLines [] = []
+stuffedLines (l ∷ ls) = cond (dotFirst l) (46 ∷ l) l ∷ stuffedLines ls
 
 -- a dot alone on its line
 abbrev pub dotLine : List ℕ
 dotLine = 46 ∷ 13 ∷ 10 ∷ []
 
 abbrev pub stuffed : List ℕ → List ℕ
-stuffed s = joined (dotted (linesOf s)) ++ dotLine
+stuffed s = joined (stuffedLines (linesOf s)) ++ dotLine
 
 -- how many lines begin with a dot
-abbrev pub dots : List (List ℕ) → ℕ
-dots [] = 0
-dots (l ∷ ls) = cond (dotFirst l) (suc (dots ls)) (dots ls)
+abbrev pub dotStarts : List (List ℕ) → ℕ
+dotStarts [] = 0
+dotStarts (l ∷ ls) = cond (dotFirst l) (suc (dotStarts ls)) (dotStarts ls)
 
 -- the length of the stuffed content: one more for each line that begins with a dot, and three for the dot line
 abbrev pub stuffedLen : List ℕ → ℕ
-stuffedLen s = length s + dots (linesOf s) + 3
+stuffedLen s = length s + dotStarts (linesOf s) + 3
 
 -- what stuffing into a buffer of `room` bytes answers: 9 where the content breaks its form, else 10 where the buffer is too short
 abbrev pub stuffAnswer : List ℕ → ℕ → Result ℕ Refusal
@@ -50,9 +50,9 @@ abbrev pub withoutDot : List ℕ → List ℕ
 withoutDot [] = []
 withoutDot (x ∷ l) = cond (eqb x 46) l (x ∷ l)
 
-abbrev pub undotted : List (List ℕ) → List (List ℕ)
-undotted [] = []
-undotted (l ∷ ls) = cond (same l dotLine) [] (withoutDot l ∷ undotted ls)
+abbrev pub unstuffedLines : List (List ℕ) → List (List ℕ)
+unstuffedLines [] = []
+unstuffedLines (l ∷ ls) = cond (same l dotLine) [] (withoutDot l ∷ unstuffedLines ls)
 
 abbrev pub unstuffed : List ℕ → List ℕ
-unstuffed t = joined (undotted (linesOf t))
+unstuffed t = joined (unstuffedLines (linesOf t))

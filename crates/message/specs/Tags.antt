@@ -1,6 +1,6 @@
 -- The tag of a message (RFC 8689): by the REQUIRETLS option, or by the TLS-Required field of its header (RFC 5322 section 2.2).
 use Prim.Native.Nat.{ℕ, _<_}
-use mathlib.Core.Bool.{Bool, true, false, cond, _||_}
+use mathlib.Core.Bool.{Bool, false, cond, _||_}
 use mathlib.Core.List.{List, [], _∷_, _++_}
 use mathlib.Core.Path.{_≡_}
 use lib.Chars.{codes}

@@ -1,6 +1,6 @@
 ghost use mathlib.Core.Path.{_≡_};
-ghost use Prim.Native.Nat.{ℕ, _+_, _<_, _≤_, min};
-ghost use lib.ListN.{length, getD};
+ghost use Prim.Native.Nat.{_+_, min};
+ghost use lib.ListN.{length};
 ghost use Rattle.smtp.specs.Parts.{firstPart};
 ghost use Rattle.message.specs.Content.{plain, linesFrom, checked};
 ghost use Rattle.message.specs.ContentHold.{ContentHolds};

@@ -1,9 +1,8 @@
 ghost use mathlib.Core.Path.{_≡_};
-ghost use Prim.Native.Nat.{ℕ, _+_, _<_, _≤_};
-ghost use mathlib.Core.List.{_∷_};
-ghost use lib.ListN.{length, drop};
+ghost use Prim.Native.Nat.{_≤_};
+ghost use lib.ListN.{length};
 ghost use Rattle.message.specs.Lines.{linesOf};
-ghost use Rattle.message.specs.Tags.{folded, fields, FirstField, isTlsRequired, white, behindWhite, saysNo, fieldTag, tagOf, tlsRequired, tagged};
+ghost use Rattle.message.specs.Tags.{folded, fields, FirstField, white, behindWhite, fieldTag, tagOf, tlsRequired, tagged};
 ghost use Rattle.message.specs.TagsHold.{TagsHold};
 use crate::content::check_content;
 use crate::content::first_line;

@@ -1,5 +1,4 @@
-use mathlib.Core.Path.{_≡_, _∙_}
-use native.Mathlib.Omega.{arith}
+use mathlib.Core.Path.{_∙_}
 use Rattle.message.proofs.Lined.{first-upto}
 use Rattle.message.proofs.content.first_line.Needs as need
 

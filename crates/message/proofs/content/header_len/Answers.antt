@@ -1,10 +1,7 @@
-use Prim.Native.Nat.{ℕ, _+_, _<_, _≤_}
-use mathlib.Core.List.{List, _∷_}
-use mathlib.Core.Path.{_≡_, ap, _∙_}
+use mathlib.Core.Path.{ap, _∙_}
 use native.Mathlib.Omega.{arith}
-use lib.ListN.{length, drop}
 use Rattle.std.proofs.shelf.Ways.{tells}
-use Rattle.message.specs.Lines.{linesOf, firstLine}
+use Rattle.message.specs.Lines.{firstLine}
 use Rattle.message.proofs.Lined.{line-at}
 use Rattle.message.proofs.Headed.{header-at, header-all}
 use Rattle.message.proofs.content.header_len.Needs as need

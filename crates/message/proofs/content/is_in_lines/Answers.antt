@@ -1,5 +1,4 @@
-use Prim.Native.Nat.{_+_, _<_}
-use lib.ListN.{length}
+use Prim.Native.Nat.{_+_}
 use native.Mathlib.Omega.{arith}
 use Rattle.std.proofs.shelf.Ways.{tells}
 use Rattle.std.proofs.shelf.Lists.{getD-past}

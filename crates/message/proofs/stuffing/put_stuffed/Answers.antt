@@ -1,11 +1,7 @@
-use Prim.Native.Nat.{ℕ, _+_, _<_, _≤_}
-use mathlib.Core.Bool.{Bool}
-use mathlib.Core.List.{List}
 use mathlib.Core.Logic.{inl, inr}
-use mathlib.Core.Path.{_≡_, sym}
+use mathlib.Core.Path.{sym}
 use native.Mathlib.Omega.{arith}
-use lib.Dec.{eqb}
-use lib.ListN.{length, getD, set, drop, length-set}
+use lib.ListN.{length-set}
 use Rattle.message.proofs.Stuffed.{Way, with-dot, turned, at-end}
 use Rattle.message.proofs.stuffing.put_stuffed.Needs as need
 use Rattle.message.proofs.stuffing.put_stuffed.Needs.{then-is-first-dot, else-is-first-dot}

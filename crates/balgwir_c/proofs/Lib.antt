@@ -1,0 +1,2 @@
+pub mod CallsTold
+pub mod ReplyTold
