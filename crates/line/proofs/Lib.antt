@@ -1,6 +1,10 @@
 pub mod Columns
+pub mod HouseKept
+pub mod HouseLaying
+pub mod HouseRule
 pub mod Laid
 pub mod Laws
 pub mod Reading
 pub mod Searches
+pub mod SheetLaws
 pub mod Soundness

@@ -175,7 +175,7 @@ calm-open Covered due e = refl
 visit-more : (text : Bytes) (st : State) (bytes : Bytes) → st .start ≤ length text → drop (st .start) (text ++ written (pieceRecord st bytes)) ≡ drop (st .start) text ++ written (pieceRecord st bytes)
 visit-more text st bytes h = drop-append-le (st .start) text (written (pieceRecord st bytes)) h
 
-pieces-more : (text : Bytes) (st : State) (bytes : Bytes) → Facts text st → st .used ≡ length text → Fits (pieceRecord st bytes)
+pub pieces-more : (text : Bytes) (st : State) (bytes : Bytes) → Facts text st → st .used ≡ length text → Fits (pieceRecord st bytes)
     → piecesIn (text ++ written (pieceRecord st bytes)) (putState st (length bytes)) ≡ piecesIn text st ++ (piece (isCovered (st .standing)) bytes ∷ [])
 pieces-more text st bytes f u fits =
     let r = pieceRecord st bytes in
@@ -212,7 +212,7 @@ sound-put text st bytes s u fits o =
     })
 
 -- a name within the text stays where it is
-name-stays : (text more : Bytes) (at long : ℕ) → at + long ≤ length text → take long (drop at (text ++ more)) ≡ take long (drop at text)
+pub name-stays : (text more : Bytes) (at long : ℕ) → at + long ≤ length text → take long (drop at (text ++ more)) ≡ take long (drop at text)
 name-stays text more at long h =
     let i : at ≤ length text = omega arith in
     let j : long ≤ length (drop at text) = simp length-drop (omega arith) in
@@ -246,11 +246,11 @@ sense-put rule text total st bytes s u fits o t =
 abbrev pub openRecord : State → Bytes → Record
 openRecord st name = record { visit = st .visit + 1; letter = letter.Opened; bytes = name ++ crlf }
 
-past-all : (text : Bytes) (st : State) (name : Bytes) → st .used ≡ length text → drop (st .used + (12 + (length name + 2))) (text ++ written (openRecord st name)) ≡ []
+pub past-all : (text : Bytes) (st : State) (name : Bytes) → st .used ≡ length text → drop (st .used + (12 + (length name + 2))) (text ++ written (openRecord st name)) ≡ []
 past-all text st name u =
     drop-all (st .used + (12 + (length name + 2))) (text ++ written (openRecord st name)) (omega (arith, length-append text (written (openRecord st name)), length-append name crlf))
 
-name-there : (text : Bytes) (st : State) (name : Bytes) → st .used ≡ length text → take (length name) (drop (st .used + 12) (text ++ written (openRecord st name))) ≡ name
+pub name-there : (text : Bytes) (st : State) (name : Bytes) → st .used ≡ length text → take (length name) (drop (st .used + 12) (text ++ written (openRecord st name))) ≡ name
 name-there text st name u =
     let more = written (openRecord st name) in
     let dd : drop 12 (drop (st .used) (text ++ more)) ≡ drop (st .used + 12) (text ++ more) = drop-drop 12 (st .used) (text ++ more) in

@@ -1,8 +1,13 @@
+pub mod Buffers
 pub mod Calls
 pub mod Entries
+pub mod HouseHost
+pub mod HouseLaws
+pub mod HouseLines
 pub mod Layout
 pub mod Letters
 pub mod Model
 pub mod Sheet
+pub mod SheetLaws
 pub mod Sheets
 pub mod Transcripts

@@ -134,10 +134,10 @@ pub impl<'s, 'o> Line for SheetLine<'s, 'o> as SheetLineLine {
     }
 
     fn close(&mut self) -> Result<(), Refusal> {
-        let state = self.state;
-        if state.standing.is_closed() {
+        if self.state.standing.is_closed() {
             return Err(Refusal::WrongStanding);
         }
+        let state = self.state;
         self.state = state.quiet(Standing::Closed);
         Ok(())
     }
@@ -156,10 +156,11 @@ pub impl<'s, 'o> Line for SheetLine<'s, 'o> as SheetLineLine {
     }
 
     fn pieces(&self) -> usize {
-        if self.state.standing.is_closed() {
+        let state = self.state;
+        if state.standing.is_closed() {
             0
         } else {
-            self.state.clear + self.state.covered
+            state.clear + state.covered
         }
     }
 }
