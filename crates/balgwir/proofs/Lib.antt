@@ -1,2 +1,3 @@
-mod Asked
-mod Few
+mod Checks
+mod Fronts
+mod Spoken

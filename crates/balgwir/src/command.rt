@@ -1,19 +1,17 @@
 ghost use mathlib.Core.Path.{_≡_};
-ghost use mathlib.Core.Bool.{true};
-ghost use mathlib.Core.List.{map};
+ghost use mathlib.Core.List.{map, []};
+ghost use Prim.Native.Nat.{_<_};
+ghost use lib.ListN.{length, getD};
 ghost use Rattle.std.specs.Of.String.{string-bytes};
-ghost use Rattle.std.specs.Results.{isOk};
-ghost use Rattle.std.specs.declared.result.Result.the-variants.{Ok, Err};
-ghost use Rattle.balgwir.specs.Commands.{spoken, Asks};
+ghost use Rattle.balgwir.specs.Commands.{Asked};
+use crate::verb::Verb;
 use std::fmt;
 
-// What the program is asked for.
+// What the program is asked for: a verb, and the words behind it.
 #[derive(Clone, Copy)]
-pub enum Command<'a> {
-    Reply { file: &'a str },
-    Explain { file: &'a str },
-    Covers { pattern: &'a str, name: &'a str },
-    Help,
+pub struct Command<'a> {
+    pub verb: Verb,
+    operands: &'a [String],
 }
 
 // Why the words behind the program's name ask for nothing.
@@ -21,53 +19,35 @@ pub enum Command<'a> {
 pub enum UsageError<'a> {
     NoCommand,
     UnknownCommand(&'a str),
-    NotOneFile(&'a str),
-    NotPatternAndName,
-    WordsAfterHelp,
+    // too few or too many words behind a command
+    WrongOperands(Verb),
+    // another word where `covered` or `clear` should stand
+    NotCoverage(&'a str),
 }
 
 impl<'a> Command<'a> {
     // The command that the words behind the program's name ask for.
     pub fn parse(words: &'a [String]) -> Result<Command<'a>, UsageError<'a>>
-        ensures asked { λ r. ⌜ elim r [ Ok c ↦ spoken c ≡ map string-bytes (now (words .entry)) | Err _ ↦ Unit {0} ] ⌝ }
-        ensures found { λ r. ⌜ (Asks (map string-bytes (now (words .entry))) → isOk r ≡ true) ⌝ }
+        ensures { λ r. ⌜ Asked (map string-bytes (now (words .entry))) r ⌝ }
     {
-        match words {
-            [] => Err(UsageError::NoCommand),
-            [command] => match command.as_str() {
-                "help" => Ok(Command::Help),
-                other => Err(UsageError::of(other)),
-            },
-            [command, file] => match command.as_str() {
-                "reply" => Ok(Command::Reply {
-                    file: file.as_str(),
-                }),
-                "explain" => Ok(Command::Explain {
-                    file: file.as_str(),
-                }),
-                other => Err(UsageError::of(other)),
-            },
-            [command, pattern, name] => match command.as_str() {
-                "covers" => Ok(Command::Covers {
-                    pattern: pattern.as_str(),
-                    name: name.as_str(),
-                }),
-                other => Err(UsageError::of(other)),
-            },
-            [command, ..] => Err(UsageError::of(command.as_str())),
+        let [name, operands @ ..] = words else {
+            return Err(UsageError::NoCommand);
+        };
+        let Some(verb) = Verb::named(name.as_str()) else {
+            return Err(UsageError::UnknownCommand(name.as_str()));
+        };
+        if operands.len() != verb.operands() {
+            return Err(UsageError::WrongOperands(verb));
         }
+        Ok(Command { verb, operands })
     }
-}
 
-impl<'a> UsageError<'a> {
-    // Why a command with too many or too few words behind it, or an unknown one, asks for nothing.
-    fn of(command: &'a str) -> UsageError<'a> {
-        match command {
-            "reply" | "explain" => UsageError::NotOneFile(command),
-            "covers" => UsageError::NotPatternAndName,
-            "help" => UsageError::WordsAfterHelp,
-            _ => UsageError::UnknownCommand(command),
-        }
+    // The operand of a number, counted from 0.
+    pub fn operand(&self, number: usize) -> &'a str
+        requires { ⌜ number < length (now (now self .operands)) ⌝ }
+        ensures { λ r. ⌜ now r ≡ getD (map string-bytes (now (now (self .entry) .operands))) number [] ⌝ }
+    {
+        self.operands[number].as_str()
     }
 }
 
@@ -76,11 +56,14 @@ pub impl fmt::Display for UsageError<'_> as UsageErrorDisplay {
         match *self {
             UsageError::NoCommand => f.write_str("no command"),
             UsageError::UnknownCommand(command) => write!(f, "unknown command: {command}"),
-            UsageError::NotOneFile(command) => write!(f, "{command} needs exactly one file"),
-            UsageError::NotPatternAndName => f.write_str(
-                "covers needs exactly a pattern and a name",
-            ),
-            UsageError::WordsAfterHelp => f.write_str("help needs no more words"),
+            UsageError::WrongOperands(verb) => {
+                let name = verb.name();
+                let needs = verb.needs();
+                write!(f, "{name} needs {needs}")
+            }
+            UsageError::NotCoverage(word) => {
+                write!(f, "tag needs the word covered or clear last, not {word}")
+            }
         }
     }
 }

@@ -1,3 +1,4 @@
+use crate::talk::wrote;
 use line::HouseHost;
 use line::HouseLine;
 use line::HouseLineLine;
@@ -19,7 +20,7 @@ fn room_exactly_enough() -> Result<(), Fail> {
     check_eq(line.pieces(), 0)?;
     check(line.put(b"QUIT\r\n").is_ok())?;
     check_eq(line.room(), 0)?;
-    check(line.transcript() == b"    1O   12 mx.example\r\n    1C    6 QUIT\r\n")
+    check(wrote(&line, b"    1O   12 mx.example\r\n    1C    6 QUIT\r\n"))
 }
 
 // One byte short: refused, and nothing altered.

@@ -6,4 +6,6 @@ mod borders;
 #[cfg(test)]
 mod refusals;
 #[cfg(test)]
+mod talk;
+#[cfg(test)]
 mod visits;

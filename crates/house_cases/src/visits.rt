@@ -1,3 +1,4 @@
+use crate::talk::wrote;
 use line::HouseHost;
 use line::HouseLine;
 use line::HouseLineLine;
@@ -27,10 +28,10 @@ fn a_visit_in_the_clear() -> Result<(), Fail> {
     check(&reply[0..10] == b"mx.example")?;
     check(matches!(line.standing(), Standing::Covered))?;
     check(line.close().is_ok())?;
-    check(
-        line.transcript()
-            == b"    1O   12 mx.example\r\n    1C   18 EHLO out.example\r\n    1C   10 STARTTLS\r\n",
-    )
+    check(wrote(
+        &line,
+        b"    1O   12 mx.example\r\n    1C   18 EHLO out.example\r\n    1C   10 STARTTLS\r\n",
+    ))
 }
 
 // A message is taken: the piece right after DATA is content, whatever it says, and the piece behind that a command again.
@@ -76,10 +77,10 @@ fn a_covered_visit() -> Result<(), Fail> {
     check(&reply[0..8] == b"500 ok\r\n")?;
     check(line.put(b"QUIT\r\n").is_ok())?;
     check(line.close().is_ok())?;
-    check(
-        line.transcript()
-            == b"    1O   12 mx.example\r\n    1C   10 STARTTLS\r\n    1T   18 EHLO out.example\r\n    1T   10 STARTTLS\r\n    1T    6 QUIT\r\n",
-    )
+    check(wrote(
+        &line,
+        b"    1O   12 mx.example\r\n    1C   10 STARTTLS\r\n    1T   18 EHLO out.example\r\n    1T   10 STARTTLS\r\n    1T    6 QUIT\r\n",
+    ))
 }
 
 // A visit starts anew: its number, its pieces, and the host's answers.
