@@ -1,4 +1,7 @@
 // The program: finds out what is asked for, does it, and prints what it found.
+
+#![tactic(auto)]
+
 mod command;
 mod failure;
 mod meaning;

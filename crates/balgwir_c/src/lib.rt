@@ -1,4 +1,7 @@
 // The calls that C links: MAIL lines with their tags, and replies, over bytes and numbers. include/balgwir.h declares them.
+
+#![tactic(auto)]
+
 ghost use Rattle.balgwir_c.specs.CallsHold.{CallsHold};
 
 pub mod mail;

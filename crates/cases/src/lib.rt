@@ -1,4 +1,7 @@
 // Worked examples: a table of what the definitions answer, proved, and the RFCs' examples and border cases, run.
+
+#![tactic(auto)]
+
 ghost use Rattle.cases.specs.Examples.{ExamplesHold};
 
 #[cfg(test)]

@@ -1,4 +1,7 @@
 // The house host by hand: visits, each refusal, and the borders of room and buffers.
+
+#![tactic(auto)]
+
 #[cfg(test)]
 mod answers;
 #[cfg(test)]

@@ -1,4 +1,7 @@
 // Lines: what a connection to a host means, call by call, and the records of what was put on it.
+
+#![tactic(auto)]
+
 mod house_answer;
 pub mod house_calls;
 pub mod house_host;

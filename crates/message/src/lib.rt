@@ -1,4 +1,7 @@
 // A message as the gateway takes it and hands it on: MAIL lines, content and header sections, dot-stuffing, the tag.
+
+#![tactic(auto)]
+
 pub mod content;
 pub mod mail_line;
 mod mail_options;

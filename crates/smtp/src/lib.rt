@@ -1,4 +1,7 @@
 // SMTP's own forms, read and checked: refusals, names and addresses, replies.
+
+#![tactic(auto)]
+
 pub mod bytes;
 pub mod names;
 pub mod refusal;

@@ -1,4 +1,7 @@
 // Vouchers: who says that a host name is the right one for a domain.
+
+#![tactic(auto)]
+
 pub mod direct;
 pub mod either;
 pub mod laws;

@@ -1,4 +1,5 @@
 ghost use Rattle.std.specs.Prelude.{◌≡◌, length};
+ghost use Rattle.std.specs.Iterator.{at_most};
 ghost use Rattle.std.specs.Option.{option_map};
 ghost use Rattle.std.specs.Str.{bytes_eq};
 ghost use Rattle.smtp.specs.Bytes.{all};
@@ -36,9 +37,7 @@ impl<'t> Iterator for Lines<'t> {
 
     ghost next_gives = { λ s r t. lines s.rest.now ≡ led (option_map (λ x. x.now) r) (lines t.rest.now) };
 
-    ghost ends = { λ _. Unit {0} };
-
-    ghost remaining = { λ s. length s.rest.now };
+    ghost remaining = { λ s. at_most (length s.rest.now) };
 
     fn next(&mut self) -> Option<&'t [u8]> {
         let rest = self.rest;

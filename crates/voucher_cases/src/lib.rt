@@ -1,4 +1,7 @@
 // Vouchers tried on examples: the policies that RFC 8461 prints, tables of what a policy text may be, and a voucher written for this crate.
+
+#![tactic(auto)]
+
 pub mod one_name;
 #[cfg(test)]
 mod policies;

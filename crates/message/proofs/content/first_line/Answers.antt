@@ -4,4 +4,4 @@ use Rattle.message.proofs.content.first_line.Goals as goal
 
 pub returns : goal.returns
 returns c =
-    record { is = simp c.part-len.ensures.is at c.upto.ensures.is ∙ first_upto c.args.s.now; len = simp c.part-len.ensures.is at c.upto.ensures.len }
+    record { is = simp c.part_len.ensures.is at c.upto.ensures.is ∙ first_upto c.args.s.now; len = simp c.part_len.ensures.is at c.upto.ensures.len }

@@ -8,7 +8,7 @@ use Rattle.message.proofs.content.header_len.Goals as goal
 pub loop-at-preserved : goal.loop-at-preserved
 loop-at-preserved c =
     let s = c.args.section.now in
-    let l = line_at s c.loop-at.at _ c.loop-at-test.true (c.first-line-line.ensures.is ∙ ap first_line c.from.ensures.is) in
+    let l = line_at s c.loop-at.at _ c.loop-at-test.true (c.first_line-line.ensures.is ∙ ap first_line c.from.ensures.is) in
     let e = header_at s c.loop-at.at _ l.2 in
     let b = l.1 in
     grind (arith, nat_tests)

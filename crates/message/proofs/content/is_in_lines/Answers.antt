@@ -3,7 +3,7 @@ use Rattle.std.proofs.lemmas.Bool.Decides.{nat_tests}
 use Rattle.std.proofs.lemmas.List.{get_or_past}
 use Rattle.message.proofs.Formed.{well_at, well_all}
 use Rattle.message.proofs.content.is_in_lines.Goals as goal
-use Rattle.message.proofs.content.is_in_lines.Goals.{then-i-content-via-then-i-content, then-i-content-via-else-i-content+then-content-i-ne10, then-n-ge998-via-then-n-ge998, then-n-ge998-via-else-n-ge998+then-not-is-plain}
+use Rattle.message.proofs.content.is_in_lines.Goals.{then-i-content-via-then-i-content, then-i-content-via-else-i-content+then-content-i-ne10, then-n-ge998-via-then-n-ge998, then-n-ge998-via-else-n-ge998+then-not-is_plain}
 
 pub returns-then-i-content : goal.returns-then-i-content
 returns-then-i-content c =
@@ -21,7 +21,7 @@ loop-i-preserved-then-content-i-eq13 c =
 pub returns-then-n-ge998 : goal.returns-then-n-ge998
 returns-then-n-ge998 c =
     let e = well_at c.loop-i.n c.loop-i.i c.args.content.now c.loop-i-test.true in
-    elim c.then-n-ge998.branch [ then-n-ge998-via-then-n-ge998 w ↦ grind (arith, nat_tests) | then-n-ge998-via-else-n-ge998+then-not-is-plain w ↦ grind (arith, nat_tests) ]
+    elim c.then-n-ge998.branch [ then-n-ge998-via-then-n-ge998 w ↦ grind (arith, nat_tests) | then-n-ge998-via-else-n-ge998+then-not-is_plain w ↦ grind (arith, nat_tests) ]
 
 pub loop-i-preserved : goal.loop-i-preserved
 loop-i-preserved c =

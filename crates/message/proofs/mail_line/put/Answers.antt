@@ -7,6 +7,6 @@ returns c =
     let n = length c.args.part.now in
     record {
       end = refl;
-      buffer = put_mid-paste c.args.at (c.args.at + n - c.args.at) c.args.out.now c.copy-from-slice.new.self c.args.part.now n
-          c.copy-from-slice.ensures.after (omega arith) refl;
+      buffer = put_mid-paste c.args.at (c.args.at + n - c.args.at) c.args.out.now c.copy_from_slice.new.self c.args.part.now n
+          c.copy_from_slice.ensures.after (omega arith) refl;
     }

@@ -5,8 +5,8 @@ use Rattle.message.specs.Tags.{behind_white}
 use Rattle.message.proofs.Tagged.{white_more}
 use Rattle.message.proofs.tag.behind_white.Goals as goal
 
-pub returns-then-not-is-white : goal.returns-then-not-is-white
-returns-then-not-is-white c =
+pub returns-then-not-is_white : goal.returns-then-not-is_white
+returns-then-not-is_white c =
     let e = white_more c.args.s.now c.loop-i.i c.loop-i-test.true in
     grind (arith, nat_tests)
 

@@ -3,32 +3,32 @@ use Rattle.smtp.specs.Bytes.{same}
 use Rattle.message.specs.declared.tag.Tag.{Tag}
 use Rattle.message.proofs.Tagged.{settle, settles, field_at, settles_other, settles_first, settles_second, settles_all}
 use Rattle.message.proofs.tag.header_tag.Goals as goal
-use Rattle.message.proofs.tag.header_tag.Goals.{then-same-word+else-is-some, else-same-word}
+use Rattle.message.proofs.tag.header_tag.Goals.{then-same_word+else-is_some, else-same_word}
 
 named : (f g : List ℕ) → f ≡ g → same f (codes "TLS-Required:") ≡ same g (codes "TLS-Required:")
 named f g e = ap (λ (t : List ℕ). same t (codes "TLS-Required:")) e
 
-pub returns-then-is-some : goal.returns-then-is-some
-returns-then-is-some c =
-    let f = field_at c.args.header.now c.loop-at.at _ _ c.loop-at-test.true c.from.ensures.is c.first-field-field.ensures.is in
-    let t = named _ _ (sym c.upto.ensures.is) ∙ (sym c.same-word.ensures ∙ c.if-same-word.true) in
-    settles_second c.loop-at.found c.args.header.now c.loop-at.at _ f.1 t (sym c.is-some.ensures ∙ c.if-is-some.true) ∙ c.loop-at.invariant.1
+pub returns-then-is_some : goal.returns-then-is_some
+returns-then-is_some c =
+    let f = field_at c.args.header.now c.loop-at.at _ _ c.loop-at-test.true c.from.ensures.is c.first_field-field.ensures.is in
+    let t = named _ _ (sym c.upto.ensures.is) ∙ (sym c.same_word.ensures ∙ c.if-same_word.true) in
+    settles_second c.loop-at.found c.args.header.now c.loop-at.at _ f.1 t (sym c.is_some.ensures ∙ c.if-is_some.true) ∙ c.loop-at.invariant.1
 
 pub loop-at-preserved : goal.loop-at-preserved
 loop-at-preserved c =
     let s = c.args.header.now in
-    let f = field_at s c.loop-at.at _ _ c.loop-at-test.true c.from.ensures.is c.first-field-field.ensures.is in
+    let f = field_at s c.loop-at.at _ _ c.loop-at-test.true c.from.ensures.is c.first_field-field.ensures.is in
     let n = c.from.ensures.len in
-    let m = c.first-field-field.ensures.within in
-    let t = named _ _ (sym c.upto.ensures.is) ∙ sym c.same-word.ensures in (
+    let m = c.first_field-field.ensures.within in
+    let t = named _ _ (sym c.upto.ensures.is) ∙ sym c.same_word.ensures in (
       omega arith,
-      elim c.if-same-word.branch [
-        | then-same-word+else-is-some w ↦
-            ap (λ (o : Option Tag). settles o s (c.loop-at.at + length c.first-field-field.result.now)) (w.found-is ∙ ap Some w.field-tag.ensures)
-            ∙ (settles_first c.loop-at.found s c.loop-at.at _ f.1 (t ∙ w.if-same-word.true) (sym w.is-some.ensures ∙ w.if-is-some.false) ∙ c.loop-at.invariant.1)
-        | else-same-word w ↦
-            ap (λ (o : Option Tag). settles o s (c.loop-at.at + length c.first-field-field.result.now)) w.found-is
-            ∙ (settles_other c.loop-at.found s c.loop-at.at _ f.1 (t ∙ w.if-same-word.false) ∙ c.loop-at.invariant.1)
+      elim c.if-same_word.branch [
+        | then-same_word+else-is_some w ↦
+            ap (λ (o : Option Tag). settles o s (c.loop-at.at + length c.first_field-field.result.now)) (w.found-is ∙ ap Some w.field_tag.ensures)
+            ∙ (settles_first c.loop-at.found s c.loop-at.at _ f.1 (t ∙ w.if-same_word.true) (sym w.is_some.ensures ∙ w.if-is_some.false) ∙ c.loop-at.invariant.1)
+        | else-same_word w ↦
+            ap (λ (o : Option Tag). settles o s (c.loop-at.at + length c.first_field-field.result.now)) w.found-is
+            ∙ (settles_other c.loop-at.found s c.loop-at.at _ f.1 (t ∙ w.if-same_word.false) ∙ c.loop-at.invariant.1)
       ],
     )
 

@@ -5,13 +5,13 @@ use Rattle.smtp.proofs.Named.{address_at}
 use Rattle.smtp.proofs.names.is_address.Goals as goal
 use Rattle.smtp.proofs.names.is_address.Goals.{then-n-s, else-n-s}
 
-pub returns-then-is-dotted : goal.returns-then-is-dotted
-returns-then-is-dotted c =
-    let e = address_at c.args.s.now c.part-len-n.result c.part-len-n.ensures.is in
+pub returns-then-is_dotted : goal.returns-then-is_dotted
+returns-then-is_dotted c =
+    let e = address_at c.args.s.now c.part_len-n.result c.part_len-n.ensures.is in
     let h = ap host_name c.from.ensures.is in
     grind (arith, nat_tests)
 
-pub returns-else-is-dotted : goal.returns-else-is-dotted
-returns-else-is-dotted c =
-    let e = address_at c.args.s.now c.part-len-n.result c.part-len-n.ensures.is in
+pub returns-else-is_dotted : goal.returns-else-is_dotted
+returns-else-is_dotted c =
+    let e = address_at c.args.s.now c.part_len-n.result c.part_len-n.ensures.is in
     elim c.if-n-s.branch [ then-n-s w ↦ let h = ap (dotted atom_byte 64) w.upto.ensures.is in grind (arith, nat_tests) | else-n-s w ↦ grind (arith, nat_tests) ]

@@ -25,7 +25,7 @@ returns-in-32 c =
     let d = behind c.args.s.now in
     both _ _ (grind (arith, nat_tests))
 
-pub returns-in-default-separator : goal.returns-in-default-separator
-returns-in-default-separator c =
+pub returns-in_default-separator : goal.returns-in_default-separator
+returns-in_default-separator c =
     let e = line_shape c.args.s.now in
     both _ _ (grind (arith, nat_tests))

@@ -10,8 +10,8 @@ step s i h = at_drop_more text_len s i 0 h
 pub loop-i-preserved : goal.loop-i-preserved
 loop-i-preserved c = let e = step c.args.s.now c.loop-i.i (omega arith) in grind (arith, nat_tests)
 
-pub returns-then-not-is-text-byte : goal.returns-then-not-is-text-byte
-returns-then-not-is-text-byte c =
+pub returns-then-not-is_text_byte : goal.returns-then-not-is_text_byte
+returns-then-not-is_text_byte c =
     let e = step c.args.s.now c.loop-i.i (omega arith) in record { is = grind (arith, nat_tests); within = omega arith }
 
 pub returns : goal.returns

@@ -3,12 +3,12 @@ use Rattle.std.proofs.lemmas.Bool.Decides.{nat_tests}
 use Rattle.voucher.proofs.Policies.{age_more, age_all, age_over}
 use Rattle.voucher.proofs.policy.is_age.Goals as goal
 
-pub returns-then-not-is-digit : goal.returns-then-not-is-digit
-returns-then-not-is-digit c =
+pub returns-then-not-is_digit : goal.returns-then-not-is_digit
+returns-then-not-is_digit c =
     let e = age_more c.loop-b.n c.args.value.now c.loop-b.b-index (omega arith) in grind (arith, nat_tests)
 
-pub returns-then-n-gt-MAX-AGE : goal.returns-then-n-gt-MAX-AGE
-returns-then-n-gt-MAX-AGE c =
+pub returns-then-n-gt-MAX_AGE : goal.returns-then-n-gt-MAX_AGE
+returns-then-n-gt-MAX_AGE c =
     let s = c.args.value.now in
     let i = c.loop-b.b-index in
     let e = age_more c.loop-b.n s i (omega arith) in

@@ -5,5 +5,5 @@ use Rattle.voucher.proofs.policy_lines.value_of.Goals as goal
 
 pub returns : goal.returns
 returns c =
-    let e = c.from.ensures.is ∙ ap (λ (n : ℕ). drop (n + 1) c.args.line.now) c.part-len.ensures.is ∙ drop_behind 58 c.args.line.now in
-    c.without-trailing.ensures ∙ ap untrailed (c.without-leading.ensures ∙ ap unled e)
+    let e = c.from.ensures.is ∙ ap (λ (n : ℕ). drop (n + 1) c.args.line.now) c.part_len.ensures.is ∙ drop_behind 58 c.args.line.now in
+    c.without_trailing.ensures ∙ ap untrailed (c.without_leading.ensures ∙ ap unled e)

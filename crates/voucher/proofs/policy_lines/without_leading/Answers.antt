@@ -10,8 +10,8 @@ step s i h = at_drop_more unled s i 0 h
 pub loop-i-preserved : goal.loop-i-preserved
 loop-i-preserved c = let e = step c.args.s.now c.loop-i.i (omega arith) in grind (arith, nat_tests)
 
-pub returns-then-not-is-blank : goal.returns-then-not-is-blank
-returns-then-not-is-blank c =
+pub returns-then-not-is_blank : goal.returns-then-not-is_blank
+returns-then-not-is_blank c =
     let e = step c.args.s.now c.loop-i.i (omega arith) in
     let d = drop_more c.args.s.now c.loop-i.i 0 (omega arith) in grind (arith, nat_tests)
 

@@ -8,19 +8,10 @@ use Rattle.line.proofs.Soundness.{sound_quiet}
 use Rattle.line.proofs.HouseKept.{follows_quiet}
 use Rattle.line.proofs.house_calls.HouseLineLine.close.Goals as goal
 
-pub invariant-of-self : goal.invariant-of-self
-invariant-of-self c =
+pub invariant_of-self : goal.invariant_of-self
+invariant_of-self c =
     let s = c.args.self.now in
     let e = c.quiet-closed.ensures in
     let u = ap (λ (t : State). t.used) e in
     let f = follows_quiet (host_of s.host) s.out.now s.state c.quiet-closed.result Closed s.talk.known s.talk.answer e (λ z. absurd (true≢false z))
-    (record { small = s.short; knows = s.knows; answered = s.answered }) in (
-      omega (arith, s.within),
-      (
-        omega (arith, s.few),
-        (
-          ap (λ (t : State). sound (take t.used s.out.now) t) e ∙ sound_quiet (take s.state.used s.out.now) s.state Closed s.sound,
-          (f.small, (f.knows, (f.answered, tt))),
-        ),
-      ),
-    )
+    (record { small = s.short; knows = s.knows; answered = s.answered }) in record { within = omega (arith, s.within); few = omega (arith, s.few); sound = ap (λ (t : State). sound (take t.used s.out.now) t) e ∙ sound_quiet (take s.state.used s.out.now) s.state Closed s.sound; short = f.small; knows = f.knows; answered = f.answered }

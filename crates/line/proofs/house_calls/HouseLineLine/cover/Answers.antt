@@ -10,51 +10,33 @@ use Rattle.line.proofs.Soundness.{sound_quiet}
 use Rattle.line.proofs.HouseKept.{Follows, name_known, follows_quiet, clear_open, cover_done, handshake_met, handshake_lost}
 use Rattle.line.proofs.house_calls.HouseLineLine.cover.Goals as goal
 
-pub invariant-of-self : goal.invariant-of-self
-invariant-of-self c =
+pub invariant_of-self : goal.invariant_of-self
+invariant_of-self c =
     let s = c.args.self.now in
     let e = c.quiet-self.ensures in
     let u = ap (λ (t : State). t.used) e in
     let f = follows_quiet (host_of s.host) s.out.now s.state c.quiet-self.result Closed s.talk.known s.talk.answer e (λ z. absurd (true≢false z))
-    (record { small = s.short; knows = s.knows; answered = s.answered }) in (
-      omega (arith, s.within),
-      (
-        omega (arith, s.few),
-        (
-          ap (λ (t : State). sound (take t.used s.out.now) t) e ∙ sound_quiet (take s.state.used s.out.now) s.state Closed s.sound,
-          (f.small, (f.knows, (f.answered, tt))),
-        ),
-      ),
-    )
+    (record { small = s.short; knows = s.knows; answered = s.answered }) in record { within = omega (arith, s.within); few = omega (arith, s.few); sound = ap (λ (t : State). sound (take t.used s.out.now) t) e ∙ sound_quiet (take s.state.used s.out.now) s.state Closed s.sound; short = f.small; knows = f.knows; answered = f.answered }
 
-pub invariant-of-self-2 : goal.invariant-of-self-2
-invariant-of-self-2 c =
+pub invariant_of-self-2 : goal.invariant_of-self-2
+invariant_of-self-2 c =
     let s = c.args.self.now in
     let e = c.quiet-self-2.ensures in
     let u = ap (λ (t : State). t.used) e in
-    let o : is_closed s.state.standing ≡ false = clear_open s.state.standing (sym c.if-not-is-clear.ensures) in
+    let o : is_closed s.state.standing ≡ false = clear_open s.state.standing (sym c.if-not-is_clear.ensures) in
     let f = follows_quiet (host_of s.host) s.out.now s.state c.quiet-self-2.result Covered s.talk.known s.talk.answer e (λ z. o)
-    (record { small = s.short; knows = s.knows; answered = s.answered }) in (
-      omega (arith, s.within),
-      (
-        omega (arith, s.few),
-        (
-          ap (λ (t : State). sound (take t.used s.out.now) t) e ∙ sound_quiet (take s.state.used s.out.now) s.state Covered s.sound,
-          (f.small, (f.knows, (f.answered, tt))),
-        ),
-      ),
-    )
+    (record { small = s.short; knows = s.knows; answered = s.answered }) in record { within = omega (arith, s.within); few = omega (arith, s.few); sound = ap (λ (t : State). sound (take t.used s.out.now) t) e ∙ sound_quiet (take s.state.used s.out.now) s.state Covered s.sound; short = f.small; knows = f.knows; answered = f.answered }
 
-pub returns-then-not-may-shake : goal.returns-then-not-may-shake
-returns-then-not-may-shake c =
+pub returns-then-not-may_shake : goal.returns-then-not-may_shake
+returns-then-not-may_shake c =
     let s = c.args.self.now in
     let h = host_of s.host in
     let text = take s.state.used s.out.now in
     let old = c.args.names.now in
-    let v : is_clear s.state.standing ≡ true = sym c.if-not-is-clear.ensures in
+    let v : is_clear s.state.standing ≡ true = sym c.if-not-is_clear.ensures in
     let big : short (length old) ≡ false = le-ltb (length old) 4096 (omega arith) in
     let t = cover_done h text (length s.out.now) s.state old None big v
-    (handshake_lost h text s.state s.talk.known s.talk.answer (record { small = s.short; knows = s.knows; answered = s.answered }) (clear_open s.state.standing v) c.if-not-may-shake.ensures) in
+    (handshake_lost h text s.state s.talk.known s.talk.answer (record { small = s.short; knows = s.knows; answered = s.answered }) (clear_open s.state.standing v) c.if-not-may_shake.ensures) in
     record {
       same = refl;
       shown = record { stands = refl; wrote = refl; ruled = refl };
@@ -63,13 +45,13 @@ returns-then-not-may-shake c =
       buffer = sym t.holds;
     }
 
-pub lay-front-requires : goal.lay-front-requires
-lay-front-requires c =
+pub lay_front-requires : goal.lay_front-requires
+lay_front-requires c =
     let s = c.args.self.now in
     let text = take s.state.used s.out.now in
-    let b = and_parts s.talk.known (awaits_handshake s.talk.answer) (sym c.if-not-may-shake.ensures) in
+    let b = and_parts s.talk.known (awaits_handshake s.talk.answer) (sym c.if-not-may_shake.ensures) in
     let k = name_known (host_of s.host) text s.state s.talk.known s.talk.answer (record { small = s.short; knows = s.knows; answered = s.answered })
-    (clear_open s.state.standing (sym c.if-not-is-clear.ensures)) b.0 in
+    (clear_open s.state.standing (sym c.if-not-is_clear.ensures)) b.0 in
     omega (arith, k.1)
 
 pub returns : goal.returns
@@ -78,14 +60,14 @@ returns c =
     let h = host_of s.host in
     let text = take s.state.used s.out.now in
     let old = c.args.names.now in
-    let v : is_clear s.state.standing ≡ true = sym c.if-not-is-clear.ensures in
+    let v : is_clear s.state.standing ≡ true = sym c.if-not-is_clear.ensures in
     let big : short (length old) ≡ false = le-ltb (length old) 4096 (omega arith) in
     let t = cover_done h text (length s.out.now) s.state old (Some (h.trust, h.name)) big v
-    (handshake_met h text s.state s.talk.known s.talk.answer (record { small = s.short; knows = s.knows; answered = s.answered }) (clear_open s.state.standing v) c.if-not-may-shake.ensures) in
+    (handshake_met h text s.state s.talk.known s.talk.answer (record { small = s.short; knows = s.knows; answered = s.answered }) (clear_open s.state.standing v) c.if-not-may_shake.ensures) in
     record {
       same = refl;
       shown = record { stands = refl; wrote = refl; ruled = refl };
       answer = sym (ap (λ (x : Step (Option (Trust × ℕ))). x.answer) t.is);
       after = ap (λ (z : State). sense (house_rule h) (take z.used s.out.now) (length s.out.now) z) c.quiet-self-2.ensures ∙ sym (ap (λ (x : Step (Option (Trust × ℕ))). x.after) t.is);
-      buffer = c.lay-front.ensures ∙ sym t.holds;
+      buffer = c.lay_front.ensures ∙ sym t.holds;
     }

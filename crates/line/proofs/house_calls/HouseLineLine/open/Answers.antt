@@ -10,7 +10,7 @@ pub returns-then-not-fits : goal.returns-then-not-fits
 returns-then-not-fits c =
     let s = c.args.self.now in
     let q = open_tight (house_rule (host_of s.host)) (take s.state.used s.out.now) (length s.out.now) s.state c.args.host.now
-    (sym c.if-not-is-host-name.ensures) (sym c.if-not-is-closed.ensures) c.if-not-fits.ensures in
+    (sym c.if-not-is_host_name.ensures) (sym c.if-not-is_closed.ensures) c.if-not-fits.ensures in
     record {
       same = refl;
       shown = record { stands = refl; wrote = refl; ruled = refl };
@@ -18,8 +18,8 @@ returns-then-not-fits c =
       after = sym (ap (λ (x : Step (Unit {0})). x.after) q);
     }
 
-pub overflow-add-state : goal.overflow-add-state
-overflow-add-state c =
+pub overflow_add-state : goal.overflow_add-state
+overflow_add-state c =
     let s = c.args.self.now in
     let f = facts (take s.state.used s.out.now) s.state s.sound in
     omega (arith, f.visits, s.few)
@@ -31,25 +31,24 @@ opened-self-requires c =
     let r = roomy (min 1000000 (length s.out.now) - s.state.used) (length c.args.host.now + 2) c.if-not-fits.ensures in
     (s.few, (omega (arith, f.visits, s.few), omega (arith, r.1)))
 
-pub invariant-of-self : goal.invariant-of-self
-invariant-of-self c =
+pub invariant_of-self : goal.invariant_of-self
+invariant_of-self c =
     let s = c.args.self.now in
-    let t = c.write-record.new.self in
-    let e = c.write-record.ensures in
+    let t = c.write_record.new.self in
+    let e = c.write_record.ensures in
     let d = open_done (house_rule (host_of s.host)) (house_rule (host_of t.host)) s.out.now t.out.now s.state c.opened-self.result c.args.host.now
-    s.within s.few s.sound (sym c.if-not-is-host-name.ensures) (sym c.if-not-is-closed.ensures) c.if-not-fits.ensures e.text e.len c.opened-self.ensures
+    s.within s.few s.sound (sym c.if-not-is_host_name.ensures) (sym c.if-not-is_closed.ensures) c.if-not-fits.ensures e.text e.len c.opened-self.ensures
     (ap (λ (z : HouseHost). house_rule (host_of z)) e.host) in
-    let f = follows_open (host_of s.host) (host_of t.host) s.out.now t.out.now s.state c.opened-self.result c.args.host.now c.same-word-known.result
-    s.within (sym c.if-not-is-host-name.ensures) e.text c.opened-self.ensures (ap host_of e.host) c.same-word-known.ensures in
-    (d.within, (d.few, (d.keeps, (f.small, (f.knows, (f.answered, tt))))))
+    let f = follows_open (host_of s.host) (host_of t.host) s.out.now t.out.now s.state c.opened-self.result c.args.host.now c.same_word-known.result
+    s.within (sym c.if-not-is_host_name.ensures) e.text c.opened-self.ensures (ap host_of e.host) c.same_word-known.ensures in record { within = d.within; few = d.few; sound = d.keeps; short = f.small; knows = f.knows; answered = f.answered }
 
 pub returns : goal.returns
 returns c =
     let s = c.args.self.now in
-    let t = c.write-record.new.self in
-    let e = c.write-record.ensures in
+    let t = c.write_record.new.self in
+    let e = c.write_record.ensures in
     let d = open_done (house_rule (host_of s.host)) (house_rule (host_of t.host)) s.out.now t.out.now s.state c.opened-self.result c.args.host.now
-    s.within s.few s.sound (sym c.if-not-is-host-name.ensures) (sym c.if-not-is-closed.ensures) c.if-not-fits.ensures e.text e.len c.opened-self.ensures
+    s.within s.few s.sound (sym c.if-not-is_host_name.ensures) (sym c.if-not-is_closed.ensures) c.if-not-fits.ensures e.text e.len c.opened-self.ensures
     (ap (λ (z : HouseHost). house_rule (host_of z)) e.host) in
     record {
       same = e.same;

@@ -13,31 +13,30 @@ put-self-requires c =
     let r = roomy (min 1000000 (length s.out.now) - s.state.used) (length c.args.piece.now) c.if-not-fits.ensures in
     (s.few, (omega (arith, f.amount, s.few), omega (arith, r.1)))
 
-pub invariant-of-self : goal.invariant-of-self
-invariant-of-self c =
+pub invariant_of-self : goal.invariant_of-self
+invariant_of-self c =
     let s = c.args.self.now in
-    let t = c.write-record.new.self in
-    let e = c.write-record.ensures in
+    let t = c.write_record.new.self in
+    let e = c.write_record.ensures in
     let p = c.args.piece.now in
-    let text = without_ending s.state.used s.state.visit c.piece-letter.result p (take s.state.used s.out.now) t.out.now e.text in
-    let d = put_done (house_rule (host_of s.host)) (house_rule (host_of t.host)) s.out.now t.out.now s.state c.put-self.result c.piece-letter.result p
-    s.within s.few s.sound (sym c.if-is-closed.ensures) c.if-not-fits.ensures c.piece-letter.ensures text e.len c.put-self.ensures
+    let text = without_ending s.state.used s.state.visit c.piece_letter.result p (take s.state.used s.out.now) t.out.now e.text in
+    let d = put_done (house_rule (host_of s.host)) (house_rule (host_of t.host)) s.out.now t.out.now s.state c.put-self.result c.piece_letter.result p
+    s.within s.few s.sound (sym c.if-is_closed.ensures) c.if-not-fits.ensures c.piece_letter.ensures text e.len c.put-self.ensures
     (ap (λ (z : HouseHost). house_rule (host_of z)) e.host) in
-    let f = follows_put (host_of s.host) (host_of t.host) s.out.now t.out.now s.state c.put-self.result c.piece-letter.result p
-    s.talk.known s.talk.answer c.next-answer.result s.within s.few s.sound c.if-not-fits.ensures c.piece-letter.ensures text c.put-self.ensures (ap host_of e.host)
-    (c.next-answer.ensures ∙ ap (λ (b : Bool). answer_next (host_of s.host) s.talk.answer (piece b p)) c.is-covered.ensures)
-    (record { small = s.short; knows = s.knows; answered = s.answered }) in
-    (d.within, (d.few, (d.keeps, (f.small, (f.knows, (f.answered, tt))))))
+    let f = follows_put (host_of s.host) (host_of t.host) s.out.now t.out.now s.state c.put-self.result c.piece_letter.result p
+    s.talk.known s.talk.answer c.next-answer.result s.within s.few s.sound c.if-not-fits.ensures c.piece_letter.ensures text c.put-self.ensures (ap host_of e.host)
+    (c.next-answer.ensures ∙ ap (λ (b : Bool). answer_next (host_of s.host) s.talk.answer (piece b p)) c.is_covered.ensures)
+    (record { small = s.short; knows = s.knows; answered = s.answered }) in record { within = d.within; few = d.few; sound = d.keeps; short = f.small; knows = f.knows; answered = f.answered }
 
 pub returns : goal.returns
 returns c =
     let s = c.args.self.now in
-    let t = c.write-record.new.self in
-    let e = c.write-record.ensures in
+    let t = c.write_record.new.self in
+    let e = c.write_record.ensures in
     let p = c.args.piece.now in
-    let text = without_ending s.state.used s.state.visit c.piece-letter.result p (take s.state.used s.out.now) t.out.now e.text in
-    let d = put_done (house_rule (host_of s.host)) (house_rule (host_of t.host)) s.out.now t.out.now s.state c.put-self.result c.piece-letter.result p
-    s.within s.few s.sound (sym c.if-is-closed.ensures) c.if-not-fits.ensures c.piece-letter.ensures text e.len c.put-self.ensures
+    let text = without_ending s.state.used s.state.visit c.piece_letter.result p (take s.state.used s.out.now) t.out.now e.text in
+    let d = put_done (house_rule (host_of s.host)) (house_rule (host_of t.host)) s.out.now t.out.now s.state c.put-self.result c.piece_letter.result p
+    s.within s.few s.sound (sym c.if-is_closed.ensures) c.if-not-fits.ensures c.piece_letter.ensures text e.len c.put-self.ensures
     (ap (λ (z : HouseHost). house_rule (host_of z)) e.host) in
     record {
       same = e.same;

@@ -8,8 +8,8 @@ use Rattle.line.proofs.Laid.{laid_step}
 use Rattle.line.proofs.house_line.HouseLine.lay.Goals as goal
 
 -- what is written stands before the place, and stays
-pub invariant-of-self : goal.invariant-of-self
-invariant-of-self c =
+pub invariant_of-self : goal.invariant_of-self
+invariant_of-self c =
     let s = c.loop-i.self in
     let v = c.loop-i.invariant in
     let st = s.state in
@@ -17,22 +17,7 @@ invariant-of-self c =
     let k = c.args.at + c.loop-i.i in
     let b = get_or c.args.src.now c.loop-i.i 0 in
     let n = length-set s.out.now k b in
-    let t : take st.used (set s.out.now k b) ≡ take st.used s.out.now = take-set-le st.used s.out.now k b (omega (arith, c.requires.0)) in (
-      omega arith,
-      (
-        s.few,
-        (
-          ap (λ (z : Bytes). sound z st) t ∙ s.sound,
-          (
-            s.short,
-            (
-              s.knows ∙ ap (λ (z : Bytes). cond (is_closed st.standing) s.talk.known (same (name_in z st) s.host.name.now)) (sym t),
-              (s.answered ∙ ap (λ (z : Bytes). answer_number (last_answer (host_of s.host) (pieces_in z st))) (sym t), tt),
-            ),
-          ),
-        ),
-      ),
-    )
+    let t : take st.used (set s.out.now k b) ≡ take st.used s.out.now = take-set-le st.used s.out.now k b (omega (arith, c.requires.0)) in record { within = omega arith; few = s.few; sound = ap (λ (z : Bytes). sound z st) t ∙ s.sound; short = s.short; knows = s.knows ∙ ap (λ (z : Bytes). cond (is_closed st.standing) s.talk.known (same (name_in z st) s.host.name.now)) (sym t); answered = s.answered ∙ ap (λ (z : Bytes). answer_number (last_answer (host_of s.host) (pieces_in z st))) (sym t) }
 
 pub loop-i-preserved : goal.loop-i-preserved
 loop-i-preserved c =

@@ -6,13 +6,12 @@ use Rattle.line.proofs.Soundness.{sound_fresh, sense_fresh}
 use Rattle.line.proofs.HouseKept.{follows_fresh}
 use Rattle.line.proofs.house_line.HouseLine.new.Goals as goal
 
-pub invariant-of-result : goal.invariant-of-result
-invariant-of-result c =
+pub invariant_of-result : goal.invariant_of-result
+invariant_of-result c =
     let e = c.fresh-state.ensures in
     let u : c.fresh-state.result.used ≡ 0 = ap (λ (s : State). s.used) e in
     let out = c.args.transcript.now in
-    let f = follows_fresh (host_of c.args.host) out c.fresh-state.result e in
-    (omega arith, (omega arith, (ap (λ (s : State). sound (take s.used out) s) e ∙ sound_fresh, (f.small, (f.knows, (f.answered, tt))))))
+    let f = follows_fresh (host_of c.args.host) out c.fresh-state.result e in record { within = omega arith; few = omega arith; sound = ap (λ (s : State). sound (take s.used out) s) e ∙ sound_fresh; short = f.small; knows = f.knows; answered = f.answered }
 
 pub returns : goal.returns
 returns c =

@@ -8,8 +8,8 @@ returns c =
     let a = c.args in
     let s = a.self.now in
     let h = head_of a.visit a.letter (length a.text.now + length a.ending.now) in
-    let t = laid s.state.used s.out.now c.lay.new.self.out.now c.lay-2.new.self.out.now c.head-of-head.result
-    h a.text.now c.head-of-head.ensures refl c.lay.ensures.text c.lay-2.ensures.text in
+    let t = laid s.state.used s.out.now c.lay.new.self.out.now c.lay-2.new.self.out.now c.head_of-head.result
+    h a.text.now c.head_of-head.ensures refl c.lay.ensures.text c.lay-2.ensures.text in
     record {
       text = laid_more s.state.used s.out.now c.lay-2.new.self.out.now c.lay-3.new.self.out.now h a.text.now a.ending.now t c.lay-3.ensures.text;
       len = search rules;

@@ -5,16 +5,14 @@ use Rattle.line.specs.Transcripts.{sound}
 use Rattle.line.proofs.Soundness.{sound_quiet}
 use Rattle.line.proofs.sheet_calls.SheetLineLine.cover.Goals as goal
 
-pub invariant-of-self : goal.invariant-of-self
-invariant-of-self c =
+pub invariant_of-self : goal.invariant_of-self
+invariant_of-self c =
     let s = c.args.self.now in
     let e = c.quiet-self.ensures in
-    let u = ap (λ (t : State). t.used) e in
-    (omega (arith, s.within), (omega (arith, s.few), (ap (λ (t : State). sound (take t.used s.out.now) t) e ∙ sound_quiet (take s.state.used s.out.now) s.state Closed s.sound, tt)))
+    let u = ap (λ (t : State). t.used) e in record { within = omega (arith, s.within); few = omega (arith, s.few); sound = ap (λ (t : State). sound (take t.used s.out.now) t) e ∙ sound_quiet (take s.state.used s.out.now) s.state Closed s.sound }
 
-pub invariant-of-self-2 : goal.invariant-of-self-2
-invariant-of-self-2 c =
+pub invariant_of-self-2 : goal.invariant_of-self-2
+invariant_of-self-2 c =
     let s = c.args.self.now in
     let e = c.quiet-self-2.ensures in
-    let u = ap (λ (t : State). t.used) e in
-    (omega (arith, s.within), (omega (arith, s.few), (ap (λ (t : State). sound (take t.used s.out.now) t) e ∙ sound_quiet (take s.state.used s.out.now) s.state Covered s.sound, tt)))
+    let u = ap (λ (t : State). t.used) e in record { within = omega (arith, s.within); few = omega (arith, s.few); sound = ap (λ (t : State). sound (take t.used s.out.now) t) e ∙ sound_quiet (take s.state.used s.out.now) s.state Covered s.sound }

@@ -4,18 +4,18 @@ use Rattle.line.specs.Transcripts.{is_closed, name_in, pieces_in}
 use Rattle.line.proofs.Soundness.{facts, opened_as, count_all}
 use Rattle.line.proofs.sheet_calls.SheetLineLine.pieces.Goals as goal
 
-pub overflow-add-result : goal.overflow-add-result
-overflow-add-result c =
+pub overflow_add-result : goal.overflow_add-result
+overflow_add-result c =
     let s = c.args.self.now in
     let f = facts (take s.state.used s.out.now) s.state s.sound in
     omega (arith, f.amount, s.few)
 
-pub returns-else-is-closed : goal.returns-else-is-closed
-returns-else-is-closed c =
+pub returns-else-is_closed : goal.returns-else-is_closed
+returns-else-is_closed c =
     let s = c.args.self.now in
     let text = take s.state.used s.out.now in
     let f = facts text s.state s.sound in
-    let o : is_closed s.state.standing ≡ false = sym c.if-is-closed.ensures in
+    let o : is_closed s.state.standing ≡ false = sym c.if-is_closed.ensures in
     let k = ap piece_count (opened_as s.state.standing (name_in text s.state) (pieces_in text s.state) o) in
     let n = count_all (pieces_in text s.state) in
     let e = f.clears in

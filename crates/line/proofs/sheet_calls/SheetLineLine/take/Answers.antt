@@ -10,19 +10,17 @@ use Rattle.line.specs.Transcripts.{name_in, pieces_in, sense, sound}
 use Rattle.line.proofs.Soundness.{Facts, facts, sound_quiet, Taken, take_done}
 use Rattle.line.proofs.sheet_calls.SheetLineLine.take.Goals as goal
 
-pub invariant-of-self : goal.invariant-of-self
-invariant-of-self c =
+pub invariant_of-self : goal.invariant_of-self
+invariant_of-self c =
     let s = c.args.self.now in
     let e = c.quiet-self.ensures in
-    let u = ap (λ (t : State). t.used) e in
-    (omega (arith, s.within), (omega (arith, s.few), (ap (λ (t : State). sound (take t.used s.out.now) t) e ∙ sound_quiet (take s.state.used s.out.now) s.state Closed s.sound, tt)))
+    let u = ap (λ (t : State). t.used) e in record { within = omega (arith, s.within); few = omega (arith, s.few); sound = ap (λ (t : State). sound (take t.used s.out.now) t) e ∙ sound_quiet (take s.state.used s.out.now) s.state Closed s.sound }
 
-pub invariant-of-self-2 : goal.invariant-of-self-2
-invariant-of-self-2 c =
+pub invariant_of-self-2 : goal.invariant_of-self-2
+invariant_of-self-2 c =
     let s = c.args.self.now in
     let e = c.quiet-self-2.ensures in
-    let u = ap (λ (t : State). t.used) e in
-    (omega (arith, s.within), (omega (arith, s.few), (ap (λ (t : State). sound (take t.used s.out.now) t) e ∙ sound_quiet (take s.state.used s.out.now) s.state s.state.standing s.sound, tt)))
+    let u = ap (λ (t : State). t.used) e in record { within = omega (arith, s.within); few = omega (arith, s.few); sound = ap (λ (t : State). sound (take t.used s.out.now) t) e ∙ sound_quiet (take s.state.used s.out.now) s.state s.state.standing s.sound }
 
 -- the counts that are kept are those of the visit's pieces
 counted : (sheet text : Bytes) (st : State) (o : Option Bytes) → Facts text st → o ≡ cond st.due (fitting (reply_on (records sheet) st.visit st.clear st.covered)) None
@@ -31,15 +29,15 @@ counted sheet text st o f e =
     sym (e ∙ ap (λ (n : ℕ). cond st.due (fitting (reply_on (records sheet) st.visit n st.covered)) None) f.clears
     ∙ ap (λ (n : ℕ). cond st.due (fitting (reply_on (records sheet) st.visit (clear_count (pieces_in text st)) n)) None) f.covereds)
 
-pub returns-in-default : goal.returns-in-default
-returns-in-default c =
+pub returns-in_default : goal.returns-in_default
+returns-in_default c =
     let s = c.args.self.now in
     let text = take s.state.used s.out.now in
     let sheet = s.sheet.bytes.now in
     let old = c.args.reply.now in
     let big : short (length old) ≡ false = grind (arith, nat_tests) in
-    let t = take_done (sheet_rule sheet) text (length s.out.now) s.state old None big (sym c.if-is-closed.ensures)
-    (counted sheet text s.state None (facts text s.state s.sound) c.in-default.ensures) in
+    let t = take_done (sheet_rule sheet) text (length s.out.now) s.state old None big (sym c.if-is_closed.ensures)
+    (counted sheet text s.state None (facts text s.state s.sound) c.in_default.ensures) in
     record {
       same = refl;
       shown = record { stands = refl; wrote = refl; ruled = refl };
@@ -55,12 +53,12 @@ returns c =
     let sheet = s.sheet.bytes.now in
     let old = c.args.reply.now in
     let big : short (length old) ≡ false = grind (arith, nat_tests) in
-    let t = take_done (sheet_rule sheet) text (length s.out.now) s.state old (Some c.in-Some.text.now) big (sym c.if-is-closed.ensures)
+    let t = take_done (sheet_rule sheet) text (length s.out.now) s.state old (Some c.in-Some.text.now) big (sym c.if-is_closed.ensures)
     (counted sheet text s.state (Some c.in-Some.text.now) (facts text s.state s.sound) c.in-Some.ensures) in
     record {
       same = refl;
       shown = record { stands = refl; wrote = refl; ruled = refl };
       answer = sym (ap (λ (x : Step (Option ℕ)). x.answer) t.is);
       after = ap (λ (z : State). sense (sheet_rule sheet) (take z.used s.out.now) (length s.out.now) z) c.quiet-self-2.ensures ∙ sym (ap (λ (x : Step (Option ℕ)). x.after) t.is);
-      buffer = c.lay-front.ensures ∙ sym t.holds;
+      buffer = c.lay_front.ensures ∙ sym t.holds;
     }

@@ -5,16 +5,15 @@ use Rattle.line.proofs.Laid.{laid_step}
 use Rattle.line.proofs.sheet_line.SheetLine.lay.Goals as goal
 
 -- what is written stands before the place, and stays
-pub invariant-of-self : goal.invariant-of-self
-invariant-of-self c =
+pub invariant_of-self : goal.invariant_of-self
+invariant_of-self c =
     let s = c.loop-i.self in
     let v = c.loop-i.invariant in
     let u : s.state.used ≡ c.args.self.now.state.used = ap (λ z. z.used) v.2 in
     let k = c.args.at + c.loop-i.i in
     let b = get_or c.args.src.now c.loop-i.i 0 in
     let n = length-set s.out.now k b in
-    let t : take s.state.used (set s.out.now k b) ≡ take s.state.used s.out.now = take-set-le s.state.used s.out.now k b (omega (arith, c.requires.0)) in
-    (omega arith, (s.few, (ap (λ (z : List ℕ). sound z s.state) t ∙ s.sound, tt)))
+    let t : take s.state.used (set s.out.now k b) ≡ take s.state.used s.out.now = take-set-le s.state.used s.out.now k b (omega (arith, c.requires.0)) in record { within = omega arith; few = s.few; sound = ap (λ (z : List ℕ). sound z s.state) t ∙ s.sound }
 
 pub loop-i-preserved : goal.loop-i-preserved
 loop-i-preserved c =

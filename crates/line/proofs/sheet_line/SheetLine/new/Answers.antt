@@ -5,11 +5,10 @@ use Rattle.line.specs.Transcripts.{sense, sound, fresh_state}
 use Rattle.line.proofs.Soundness.{sound_fresh, sense_fresh}
 use Rattle.line.proofs.sheet_line.SheetLine.new.Goals as goal
 
-pub invariant-of-result : goal.invariant-of-result
-invariant-of-result c =
+pub invariant_of-result : goal.invariant_of-result
+invariant_of-result c =
     let e = c.fresh-state.ensures in
-    let u : c.fresh-state.result.used ≡ 0 = ap (λ (s : State). s.used) e in
-    (omega arith, (omega arith, (ap (λ (s : State). sound (take s.used c.args.transcript.now) s) e ∙ sound_fresh, tt)))
+    let u : c.fresh-state.result.used ≡ 0 = ap (λ (s : State). s.used) e in record { within = omega arith; few = omega arith; sound = ap (λ (s : State). sound (take s.used c.args.transcript.now) s) e ∙ sound_fresh }
 
 pub returns : goal.returns
 returns c =

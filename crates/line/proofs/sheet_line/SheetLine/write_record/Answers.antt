@@ -8,8 +8,8 @@ returns c =
     let a = c.args in
     let s = a.self.now in
     record {
-      text = laid s.state.used s.out.now c.lay.new.self.out.now c.lay-2.new.self.out.now c.head-of-head.result
-          (head_of a.visit a.letter (length a.piece.now)) a.piece.now c.head-of-head.ensures refl c.lay.ensures.text c.lay-2.ensures.text;
+      text = laid s.state.used s.out.now c.lay.new.self.out.now c.lay-2.new.self.out.now c.head_of-head.result
+          (head_of a.visit a.letter (length a.piece.now)) a.piece.now c.head_of-head.ensures refl c.lay.ensures.text c.lay-2.ensures.text;
       len = search rules;
       state = search rules;
       sheet = search rules;

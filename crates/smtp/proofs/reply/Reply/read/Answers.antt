@@ -17,39 +17,39 @@ malformed s e = simp e
 pub loop-last-init : goal.loop-last-init
 loop-last-init c =
     let s = c.args.bytes.now in
-    let l = line_of c.in-ok-first.first in
-    let i : line_at s ≡ Some l = sym c.in-ok-first.ensures.is in
+    let l = line_of c.in_ok-first.first in
+    let i : line_at s ≡ Some l = sym c.in_ok-first.ensures.is in
     let f = first_code s l i in
     let d = (decides_more s (reply_code s) 0 l (decides_start s) i).0 (sym f) in
-    let w = c.in-ok-first.ensures.within in
+    let w = c.in_ok-first.ensures.within in
     let z = c.size-at.ensures in
-    (omega arith, sym f, carried s (sym c.is-last-last.ensures) f (zero-add (size l) ∙ sym z) d)
+    (omega arith, sym f, carried s (sym c.is_last-last.ensures) f (zero-add (size l) ∙ sym z) d)
 
-pub returns-in-err-line : goal.returns-in-err-line
-returns-in-err-line c =
+pub returns-in_err-line : goal.returns-in_err-line
+returns-in_err-line c =
     let s = c.args.bytes.now in
-    let i : line_at (drop c.loop-last.at s) ≡ None = ap line_at (sym c.from.ensures.is) ∙ sym c.in-err-line.ensures.is in
+    let i : line_at (drop c.loop-last.at s) ≡ None = ap line_at (sym c.from.ensures.is) ∙ sym c.in_err-line.ensures.is in
     let d = carried s c.loop-last-test.true refl refl c.loop-last.invariant.2 in
-    ap (option_map held) c.from-residual-in-err-line.ensures ∙ malformed s (decides_none s _ _ d i)
+    ap (option_map held) c.from_residual-in_err-line.ensures ∙ malformed s (decides_none s _ _ d i)
 
 pub returns-then-line-first : goal.returns-then-line-first
 returns-then-line-first c =
     let s = c.args.bytes.now in
-    let l = line_of c.in-ok-line.line in
-    let i : line_at (drop c.loop-last.at s) ≡ Some l = ap line_at (sym c.from.ensures.is) ∙ sym c.in-ok-line.ensures.is in
+    let l = line_of c.in_ok-line.line in
+    let i : line_at (drop c.loop-last.at s) ≡ Some l = ap line_at (sym c.from.ensures.is) ∙ sym c.in_ok-line.ensures.is in
     let d = carried s c.loop-last-test.true refl refl c.loop-last.invariant.2 in
     malformed s ((decides_more s _ _ l d i).1 c.if-line-first.true)
 
 pub loop-last-preserved : goal.loop-last-preserved
 loop-last-preserved c =
     let s = c.args.bytes.now in
-    let l = line_of c.in-ok-line.line in
-    let i : line_at (drop c.loop-last.at s) ≡ Some l = ap line_at (sym c.from.ensures.is) ∙ sym c.in-ok-line.ensures.is in
+    let l = line_of c.in_ok-line.line in
+    let i : line_at (drop c.loop-last.at s) ≡ Some l = ap line_at (sym c.from.ensures.is) ∙ sym c.in_ok-line.ensures.is in
     let d = carried s c.loop-last-test.true refl refl c.loop-last.invariant.2 in
-    let w = c.in-ok-line.ensures.within in
+    let w = c.in_ok-line.ensures.within in
     let n = c.from.ensures.len in
     let z = c.size-at-in-loop-last.ensures in (
       omega arith,
       c.loop-last.invariant.1,
-      carried s (sym c.is-last-last-in-loop-last.ensures) refl (ap (λ (x : ℕ). c.loop-last.at + x) (sym z)) ((decides_more s _ _ l d i).0 c.if-line-first.false),
+      carried s (sym c.is_last-last-in-loop-last.ensures) refl (ap (λ (x : ℕ). c.loop-last.at + x) (sym z)) ((decides_more s _ _ l d i).0 c.if-line-first.false),
     )

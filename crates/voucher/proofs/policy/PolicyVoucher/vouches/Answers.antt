@@ -10,4 +10,4 @@ pub returns-in-Enforce : goal.returns-in-Enforce
 returns-in-Enforce c =
     let text = c.args.self.now.text.now in
     let name = c.args.name.now in
-    c.some-mx-covers.ensures ∙ covers_held name (lines text) ∙ ap (λ (m : Mode). holds (policy_set m text) name) (sym c.in-Enforce.is)
+    c.some_mx_covers.ensures ∙ covers_held name (lines text) ∙ ap (λ (m : Mode). holds (policy_set m text) name) (sym c.in-Enforce.is)
