@@ -1,7 +1,7 @@
 -- The front of a sheet up to where a record should stand: what is known of it, one record on, and at the first fault.
-use Rattle.std.proofs.Common.{◌≡◌, ℕ, suc, ◌+◌, ◌<◌, ◌≤◌, Bool, true, false, cond, ◌&&◌, ltb, leb, List, [], ◌∷◌, ◌++◌, length, take, drop, is_some, Some, None, Option, sym, refl, ap, ◌∙◌, subst, arith}
+use Rattle.std.proofs.Common.{◌≡◌, ℕ, suc, ◌+◌, ◌<◌, ◌≤◌, Bool, true, false, cond, ◌&&◌, ltb, leb, List, [], ◌∷◌, ◌++◌, length, take, drop, is_some, Some, None, sym, refl, ap, ◌∙◌, subst, arith}
 use Rattle.std.proofs.lemmas.Bool.{and_parts, and_from, and_left, and_right, ltb-false, ltb-true, le-leb, lt-leb}
-use Rattle.std.proofs.lemmas.List.{take-append-drop, take-take, take_all, drop-take, take_at, length-drop, length_push}
+use Rattle.std.proofs.lemmas.List.{take-append-drop, take-take, drop-take, take_at, length-drop, length_push}
 use Rattle.smtp.specs.Bytes.{all}
 use Rattle.line.specs.declared.record.Letter.{Letter}
 use Rattle.line.specs.declared.record.Letter.TheVariants.{Opened, Clear, Covered, Reply, Handshake}
@@ -13,8 +13,7 @@ use Rattle.line.proofs.Reading.{size_within}
 use Rattle.line.proofs.Searches.{sheet_step, sheet_none, sheet_end}
 use Rattle.balgwir.specs.declared.sheet_fault.Fault.{Fault}
 use Rattle.balgwir.specs.declared.sheet_fault.Fault.TheVariants as fault
-use Rattle.balgwir.specs.declared.sheet_fault.SheetFault.{SheetFault}
-use Rattle.balgwir.specs.SheetFaults.{letter_fault, record_fault, fault_in, least_from, First, FirstFault}
+use Rattle.balgwir.specs.SheetFaults.{letter_fault, record_fault, fault_in, least_from, First}
 
 -- a record that was read stands there as it is written
 longer : (s : Bytes) (at : ℕ) (r : Record) → record_at (drop at s) ≡ Some r → take (at + size_of r) s ≡ take at s ++ written r

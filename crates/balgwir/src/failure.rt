@@ -32,7 +32,3 @@ impl fmt::Display for Failure<'_> {
         }
     }
 }
-
-// The program failed, and has said why on standard error.
-#[derive(Clone, Copy)]
-pub struct Failed;

@@ -16,7 +16,7 @@ mod usage;
 mod verb;
 
 use command::{Command, UsageError};
-use failure::{Failed, Failure};
+use failure::Failure;
 use meaning::Meaning;
 use policy_report::{PolicyAnswer, PolicyReport};
 use reply_report::ReplyReport;
@@ -24,6 +24,7 @@ use sheet_report::SheetReport;
 use smtp::Reply;
 use smtp::names::covers;
 use std::fmt::Display;
+use std::process::ExitCode;
 use std::{env, fs, io};
 use tag_report::{TagReport, TaggedMail, covered_named};
 use text::yes_no;
@@ -111,17 +112,17 @@ fn run<'a>(rt: &HostRuntime, words: &'a [String]) -> Result<(), Failure<'a>> {
 }
 
 // Says on standard error why the program failed.
-fn failed(rt: &HostRuntime, why: impl Display + Drop) -> Failed {
+fn failed(rt: &HostRuntime, why: impl Display + Drop) -> ExitCode {
     let _ = eprintln!(rt; "balgwir: {why}");
-    Failed
+    ExitCode::FAILURE
 }
 
-fn main(rt: HostRuntime) -> Result<(), Failed> {
+fn main(rt: HostRuntime) -> ExitCode {
     match words(&rt) {
         Ok(words) => match run(&rt, words.as_slice()) {
-            Ok(()) => Ok(()),
-            Err(failure) => Err(failed(&rt, failure)),
+            Ok(()) => ExitCode::SUCCESS,
+            Err(failure) => failed(&rt, failure),
         },
-        Err(error) => Err(failed(&rt, error)),
+        Err(error) => failed(&rt, error),
     }
 }

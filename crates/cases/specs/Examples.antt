@@ -1,7 +1,7 @@
 -- Worked examples of the definitions, as one table that grows with them: each row says what a definition answers.
-use Rattle.std.specs.Prelude.{◌≡◌, ℕ, Bool, true, false, cond, not, ◌&&◌, ◌||◌, List, [], ◌∷◌, codes, ◌==◌}
+use Rattle.std.specs.Prelude.{◌≡◌, ℕ, Bool, true, false, cond, not, ◌&&◌, List, [], ◌∷◌, codes, ◌==◌}
 use Rattle.smtp.specs.Bytes.{all}
-use Rattle.smtp.specs.Names.{host_name, address, covers_name, names_cover}
+use Rattle.smtp.specs.Names.{address, covers_name, names_cover}
 use Rattle.smtp.specs.Replies.{well_formed}
 use Rattle.smtp.specs.Keywords.{listed}
 

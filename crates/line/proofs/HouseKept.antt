@@ -1,5 +1,5 @@
 -- A line to a house host, by what it keeps of the visit.
-use Rattle.std.proofs.Common.{◌≡◌, ℕ, ◌+◌, ◌-◌, ◌<◌, ◌≤◌, min, Bool, true, false, cond, not, ◌&&◌, eqb, ltb, leb, List, [], ◌∷◌, ◌++◌, map, length, take, drop, Some, None, Option, sym, refl, ap, ◌∙◌, subst, inl, inr, arith}
+use Rattle.std.proofs.Common.{◌≡◌, ℕ, ◌+◌, ◌-◌, ◌≤◌, min, Bool, true, false, cond, not, ◌&&◌, eqb, ltb, leb, List, [], ◌∷◌, ◌++◌, map, length, take, drop, Some, None, Option, sym, refl, ap, ◌∙◌, subst, inl, inr, arith}
 use Rattle.std.proofs.lemmas.Bool.{cases_eq, true≢false, le-ltb, leb-true, and_parts}
 use Rattle.std.proofs.lemmas.List.{append-nil, length-append, length-take, length-take-le}
 use Rattle.smtp.specs.Bytes.{same}
@@ -15,7 +15,7 @@ use Rattle.line.specs.declared.house_host.RecipientCode.{RecipientCode}
 use Rattle.line.specs.declared.house_host.RecipientCode.TheVariants.{Accepted, TryLater, Refused}
 use Rattle.line.specs.declared.house_answer.Answer.{Answer}
 use Rattle.line.specs.declared.house_answer.Answer.TheVariants.{Greeting, Extensions, Ready, Done, Recipient, GoAhead, Unknown}
-use Rattle.line.specs.Model.{Bytes, Record, Piece, Connection, opened, Meaning}
+use Rattle.line.specs.Model.{Bytes, Record, Piece, opened, Meaning}
 use Rattle.line.specs.Calls.{tight, crlf, short, fitting, laid, fitting_names, names_of, shaking, covering, names_buffer, piece}
 use Rattle.line.specs.Layout.{head_of, written, records, Fits}
 use Rattle.line.specs.Transcripts.{is_closed, is_clear, is_covered, piece_letter, piece_of, name_in, pieces_in, standing_of, sense, sound, fresh_state, opened_state, put_state, quiet_state}

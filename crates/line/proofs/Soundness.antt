@@ -1,8 +1,8 @@
 -- What holds of a line that keeps its transcript in lent bytes, before and after each call.
-use Rattle.std.proofs.Common.{◌≡◌, ℕ, zero, suc, ◌+◌, ◌-◌, ◌*◌, ◌<◌, ◌≤◌, min, Bool, true, false, cond, not, ◌&&◌, eqb, ltb, leb, List, [], ◌∷◌, ◌++◌, map, length, take, drop, Some, None, Option, sym, refl, ap, ◌∙◌, subst, arith}
+use Rattle.std.proofs.Common.{◌≡◌, ℕ, suc, ◌+◌, ◌-◌, ◌*◌, ◌≤◌, min, Bool, true, false, cond, not, eqb, leb, List, [], ◌∷◌, ◌++◌, map, length, take, drop, None, Option, sym, refl, ap, ◌∙◌, subst, arith}
 use Rattle.std.proofs.lemmas.Bool.Decides.{nat_tests}
 use Rattle.std.proofs.lemmas.Bool.{not-true, not-false, and_parts, and_from, eqb-true, eq-eqb, leb-true, le-leb}
-use Rattle.std.proofs.lemmas.List.{take-append-le, drop-append-le, length-drop, length-take-le, length-append, append_assoc, map-append, drop_all, drop-drop, drop_at, take_at}
+use Rattle.std.proofs.lemmas.List.{take-append-le, drop-append-le, length-drop, length-take-le, length-append, map-append, drop_all, drop-drop, drop_at, take_at}
 use Rattle.line.specs.declared.record.Letter.{Letter}
 use Rattle.line.specs.declared.record.Letter.TheVariants as letter
 use Rattle.line.specs.declared.line.Standing.{Standing}
@@ -10,7 +10,7 @@ use Rattle.line.specs.declared.line.Standing.TheVariants.{Closed, Clear, Covered
 use Rattle.line.specs.declared.state.State.{State}
 use Rattle.smtp.specs.Names.{host_name}
 use Rattle.smtp.specs.declared.refusal.Refusal.TheVariants.{NoRoom}
-use Rattle.line.specs.Model.{Bytes, Record, Piece, Rule, Connection, closed, opened, Meaning, fresh, stance, idle_at}
+use Rattle.line.specs.Model.{Bytes, Record, Piece, Rule, closed, opened, Meaning, fresh, stance, idle_at}
 use Rattle.line.specs.Calls.{Step, does, refuse, tight, noted, letter_of, piece, crlf, opening, putting, taking, hearing, laid, short, fitting, reply_buffer}
 use Rattle.line.specs.Layout.{head_of, written, records, whole, Fits}
 use Rattle.line.specs.Sheet.{clear_count, covered_count}

@@ -1,5 +1,5 @@
 -- A line that keeps its transcript in lent bytes: what it means, by the bytes written and where it stands in them.
-use Rattle.std.specs.Prelude.{ℕ, ◌+◌, ◌-◌, ◌*◌, min, Bool, true, false, cond, not, ◌&&◌, List, [], ◌∷◌, ◌++◌, map, length, take, drop, ◌==◌, nat_le}
+use Rattle.std.specs.Prelude.{ℕ, ◌+◌, ◌-◌, ◌*◌, min, Bool, true, false, cond, not, ◌&&◌, List, map, take, drop, ◌==◌, nat_le}
 use Rattle.line.specs.declared.record.Letter.{Letter}
 use Rattle.line.specs.declared.record.Letter.TheVariants as letter
 use Rattle.line.specs.declared.line.Standing.{Standing}

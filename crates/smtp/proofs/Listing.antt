@@ -1,9 +1,8 @@
 -- What a reply lists, as a walk over its lines sees it.
-use Rattle.std.proofs.Common.{◌≡◌, ℕ, zero, suc, ◌+◌, ◌-◌, ◌<◌, ◌≤◌, Bool, true, false, cond, ◌&&◌, ◌||◌, eqb, ltb, leb, List, [], ◌∷◌, length, get_or, take, drop, Some, None, Option, sym, refl, ap, ◌∙◌, subst, inl, inr, arith, Bor}
+use Rattle.std.proofs.Common.{◌≡◌, ℕ, ◌+◌, ◌≤◌, Bool, true, false, cond, ◌&&◌, eqb, List, [], ◌∷◌, length, drop, Some, None, Option, sym, refl, ap, ◌∙◌, subst, inl, inr, arith, Bor}
 use Rattle.std.proofs.lemmas.Bool.Decides.{nat_tests}
 use Rattle.std.proofs.lemmas.List.{take_all}
 use Rattle.std.proofs.lemmas.Bool.{cases_Bool, and_parts, eqb-true, eqb-false}
-use Rattle.std.specs.Option.{option_map}
 use Rattle.smtp.specs.declared.reply_line.ReplyLine.{ReplyLine}
 use Rattle.smtp.specs.declared.reply_line.ReplyLine.TheVariants.{Greeting, Keyword, Other}
 use Rattle.smtp.specs.Bytes.{same, some, all}
@@ -11,7 +10,7 @@ use Rattle.smtp.specs.Names.{label_byte}
 use Rattle.smtp.specs.Parts.{first_part}
 use Rattle.smtp.proofs.Parted.{take_first}
 use Rattle.smtp.proofs.Wire.{turn, front_none}
-use Rattle.smtp.specs.Replies.{Line, line_at, size, front_in, front_by, front}
+use Rattle.smtp.specs.Replies.{Line, line_at, size, front_by}
 use Rattle.smtp.specs.Keywords.{Part, greeting, keyword, other, is_keyword, listing, text_place, part_of, part_in, part_at, size_in, next_at, seen, lists_word, listed_in, listed}
 
 -- what the lines from a place on list: the line at 0 lists nothing

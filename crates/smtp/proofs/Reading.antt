@@ -1,14 +1,11 @@
 -- A reply read line by line: what is left decides whether it is well formed.
-use Rattle.std.proofs.Common.{◌≡◌, ℕ, zero, suc, ◌+◌, ◌-◌, ◌<◌, ◌≤◌, Bool, true, false, cond, not, ◌&&◌, eqb, ltb, leb, List, [], ◌∷◌, length, drop, Some, None, Option, sym, refl, ap, ◌∙◌, subst, add_assoc, zero-add, arith}
+use Rattle.std.proofs.Common.{◌≡◌, ℕ, zero, suc, ◌+◌, ◌<◌, ◌≤◌, Bool, true, false, cond, not, ◌&&◌, eqb, List, [], ◌∷◌, length, drop, Some, None, sym, refl, ap, ◌∙◌, add_assoc, zero-add, arith}
 use Rattle.std.proofs.lemmas.Bool.Decides.{nat_tests}
 use Rattle.std.proofs.lemmas.List.{length-drop}
 use Rattle.std.proofs.lemmas.Bool.{eq-eqb, ne_eqb}
-use Rattle.smtp.specs.declared.reply_line.Separator.{Separator}
-use Rattle.smtp.specs.declared.reply_line.Separator.TheVariants.{Hyphen, Blank, Missing}
 use Rattle.smtp.specs.Bytes.{all}
-use Rattle.smtp.specs.Replies.{Line, line_at, size, is_last, front_in, front_by, front, closes, total, code_in, reply_code, in_form, well_formed}
-use Rattle.smtp.specs.Keywords.{size_in}
-use Rattle.smtp.proofs.Wire.{turn, front_none, size_within}
+use Rattle.smtp.specs.Replies.{Line, line_at, size, is_last, front_by, front, closes, total, code_in, reply_code, well_formed}
+use Rattle.smtp.proofs.Wire.{turn, front_none}
 
 -- the lines from a place on make a reply of `n` bytes; behind the last line its end has to be
 abbrev pub stands_from : Bool → ℕ → ℕ → List Line → ℕ → Bool

@@ -1,13 +1,13 @@
 -- Lines of a reply by their places, where what is past the end reads 0.
-use Rattle.std.proofs.Common.{◌≡◌, ℕ, zero, suc, ◌+◌, ◌-◌, ◌<◌, ◌≤◌, Bool, true, false, cond, ◌&&◌, ◌||◌, eqb, ltb, leb, List, [], ◌∷◌, length, get_or, take, drop, Some, None, Option, sym, refl, ap, ◌∙◌, arith}
+use Rattle.std.proofs.Common.{◌≡◌, ℕ, zero, suc, ◌+◌, ◌-◌, ◌<◌, ◌≤◌, Bool, true, false, cond, ◌&&◌, ◌||◌, eqb, leb, List, [], ◌∷◌, length, get_or, drop, Some, None, Option, sym, refl, ap, ◌∙◌, arith}
 use Rattle.std.proofs.lemmas.Bool.Decides.{nat_tests}
 use Rattle.smtp.specs.declared.reply_line.Separator.{Separator}
-use Rattle.smtp.specs.declared.reply_line.Separator.TheVariants.{Hyphen, Blank, Missing}
+use Rattle.smtp.specs.declared.reply_line.Separator.TheVariants.{Hyphen, Blank}
 use Rattle.smtp.specs.Bytes.{letter, digit, all}
 use Rattle.smtp.specs.Names.{label_byte}
 use Rattle.std.proofs.lemmas.Bool.{true≢false, and_parts}
 use Rattle.std.proofs.lemmas.List.{drop-drop, length-drop, length-take}
-use Rattle.smtp.specs.Replies.{Line, width, code_digits, code_of, text_byte, text_len, crlf_first, text_line, bare_line, behind_code, line_at, size, front_in, front_by}
+use Rattle.smtp.specs.Replies.{Line, width, code_digits, code_of, text_len, crlf_first, text_line, bare_line, line_at, size, front_in, front_by}
 use Rattle.smtp.specs.Keywords.{is_keyword, size_in}
 
 -- a line by its first four bytes and what is behind them

@@ -1,5 +1,5 @@
 -- Keywords in the lines of a reply (RFC 5321 section 4.1.1.1), where each stands, and which are listed.
-use Rattle.std.specs.Prelude.{ℕ, ◌+◌, Bool, true, false, cond, ◌&&◌, ◌||◌, List, [], ◌∷◌, length, drop, Some, None, Option, ◌==◌}
+use Rattle.std.specs.Prelude.{ℕ, ◌+◌, Bool, false, cond, ◌&&◌, ◌||◌, List, [], ◌∷◌, length, drop, Some, None, Option, ◌==◌}
 use Rattle.smtp.specs.declared.reply_line.ReplyLine.{ReplyLine}
 use Rattle.smtp.specs.declared.reply_line.ReplyLine.TheVariants.{Greeting, Keyword, Other}
 use Rattle.smtp.specs.Bytes.{letter, digit, same, all, some}

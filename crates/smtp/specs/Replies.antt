@@ -2,8 +2,7 @@
 use Rattle.std.specs.Prelude.{ℕ, zero, suc, ◌+◌, ◌-◌, ◌*◌, Bool, true, false, cond, not, ◌&&◌, ◌||◌, List, [], ◌∷◌, length, take, drop, Some, None, Option, ◌==◌, nat_eq, nat_le, slice_index}
 use Rattle.smtp.specs.declared.reply_line.Separator.{Separator}
 use Rattle.smtp.specs.declared.reply_line.Separator.TheVariants.{Hyphen, Blank, Missing}
-use Rattle.smtp.specs.Bytes.{within, letter, digit, same, all, some}
-use Rattle.smtp.specs.Names.{label_byte}
+use Rattle.smtp.specs.Bytes.{within, all}
 
 -- a byte of a line's text: a tab, or a printable one
 abbrev pub text_byte : ℕ → Bool

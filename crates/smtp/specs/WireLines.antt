@@ -1,5 +1,4 @@
 -- A line as the reader holds it, by what its reference points to.
-use Rattle.std.specs.Prelude.{Bool}
 use Rattle.smtp.specs.declared.reply_line.WireLine.{WireLine}
 use Rattle.smtp.specs.Replies.{Line}
 

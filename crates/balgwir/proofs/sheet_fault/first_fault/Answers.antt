@@ -8,10 +8,10 @@ use Rattle.balgwir.proofs.sheet_fault.first_fault.Goals as goal
 pub loop-place-init : goal.loop-place-init
 loop-place-init c = front_none c.args.sheet.now
 
-pub returns-in-default : goal.returns-in-default
-returns-in-default c =
+pub returns-in_default : goal.returns-in_default
+returns-in_default c =
     let s = c.args.sheet.now in
-    let none : record_at (drop c.loop-place.place s) ≡ None = ap record_at (sym c.from.ensures.is) ∙ sym c.in-default.ensures.is in
+    let none : record_at (drop c.loop-place.place s) ≡ None = ap record_at (sym c.from.ensures.is) ∙ sym c.in_default.ensures.is in
     first_layout s c.loop-place.number c.loop-place.place c.loop-place.least c.loop-place.invariant (omega arith) none
 
 pub returns-in-Some-of : goal.returns-in-Some-of
@@ -27,7 +27,7 @@ loop-place-preserved c =
     let r = record_of c.in-Some.entry in
     let is : record_at (drop c.loop-place.place s) ≡ Some r = ap record_at (sym c.from.ensures.is) ∙ sym c.in-Some.ensures.is in
     subst (λ (n : ℕ). Front s (c.loop-place.number + 1) (c.loop-place.place + n) r.visit) (sym c.size-place.ensures)
-    (front_more s c.loop-place.number c.loop-place.place c.loop-place.least r c.loop-place.invariant is c.in-default-of.ensures)
+    (front_more s c.loop-place.number c.loop-place.place c.loop-place.least r c.loop-place.invariant is c.in_default-of.ensures)
 
 pub returns : goal.returns
 returns c = front_all c.args.sheet.now c.loop-place.number c.loop-place.place c.loop-place.least c.loop-place.invariant (omega arith)

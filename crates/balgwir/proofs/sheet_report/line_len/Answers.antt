@@ -1,5 +1,4 @@
-use Rattle.std.proofs.Common.{◌≡◌, ℕ, suc, ◌+◌, ◌<◌, true, false, cond, List, ◌∷◌, length, get_or, drop, sym, ap, ◌∙◌, arith}
-use Rattle.std.proofs.lemmas.Bool.Decides.{nat_tests}
+use Rattle.std.proofs.Common.{◌≡◌, ℕ, suc, ◌+◌, ◌<◌, true, false, cond, List, length, drop, sym, ap, ◌∙◌, arith}
 use Rattle.std.proofs.lemmas.List.{at_drop_more, at_drop_all, drop_more}
 use Rattle.smtp.specs.Replies.{crlf_first}
 use Rattle.balgwir.specs.Shown.{line_len}
@@ -13,14 +12,14 @@ step s i h =
 pub loop-i-preserved : goal.loop-i-preserved
 loop-i-preserved c =
     let e = step c.args.s.now c.loop-i.i (omega arith) in
-    let t : crlf_first (drop c.loop-i.i c.args.s.now) ≡ false = ap crlf_first (sym c.from.ensures.is) ∙ sym c.is-crlf.ensures ∙ c.if-is-crlf.false in
+    let t : crlf_first (drop c.loop-i.i c.args.s.now) ≡ false = ap crlf_first (sym c.from.ensures.is) ∙ sym c.is_crlf.ensures ∙ c.if-is_crlf.false in
     let f : line_len (drop c.loop-i.i c.args.s.now) ≡ suc (line_len (drop (c.loop-i.i + 1) c.args.s.now)) = simp t at e in
     omega (arith, c.loop-i.invariant)
 
-pub returns-then-is-crlf : goal.returns-then-is-crlf
-returns-then-is-crlf c =
+pub returns-then-is_crlf : goal.returns-then-is_crlf
+returns-then-is_crlf c =
     let e = step c.args.s.now c.loop-i.i (omega arith) in
-    let t : crlf_first (drop c.loop-i.i c.args.s.now) ≡ true = ap crlf_first (sym c.from.ensures.is) ∙ sym c.is-crlf.ensures ∙ c.if-is-crlf.true in
+    let t : crlf_first (drop c.loop-i.i c.args.s.now) ≡ true = ap crlf_first (sym c.from.ensures.is) ∙ sym c.is_crlf.ensures ∙ c.if-is_crlf.true in
     let f : line_len (drop c.loop-i.i c.args.s.now) ≡ 0 = simp t at e in
     record { is = omega (arith, c.loop-i.invariant); within = omega arith }
 

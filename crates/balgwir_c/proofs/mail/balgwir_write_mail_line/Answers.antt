@@ -8,7 +8,7 @@ use Rattle.balgwir_c.proofs.mail.balgwir_write_mail_line.Goals as goal
 
 pub returns-in-Ok : goal.returns-in-Ok
 returns-in-Ok c =
-    let b = c.is-set.ensures ∙ ap yes (to_z-of_z w32 c.args.require-tls c.ranges.require-tls) in
+    let b = c.is_set.ensures ∙ ap yes (to_z-of_z w32 c.args.require_tls c.ranges.require_tls) in
     let h = c.in-Ok.ensures in
     let a = h.answer ∙ ap (λ (t : Bool). writing c.args.path.now t (length c.args.out.now)) b in
     record {
@@ -19,12 +19,12 @@ returns-in-Ok c =
 
 pub returns-in-Err : goal.returns-in-Err
 returns-in-Err c =
-    let b = c.is-set.ensures ∙ ap yes (to_z-of_z w32 c.args.require-tls c.ranges.require-tls) in
+    let b = c.is_set.ensures ∙ ap yes (to_z-of_z w32 c.args.require_tls c.ranges.require_tls) in
     let h = c.in-Err.ensures in
     let a = h.answer ∙ ap (λ (t : Bool). writing c.args.path.now t (length c.args.out.now)) b in
-    let f : SFits w32 c.refusal-int.result = search rules in
+    let f : SFits w32 c.refusal_int.result = search rules in
     record {
-      answer = to_z-of_z w32 c.refusal-int.result f ∙ (c.refusal-int.ensures ∙ ap status a);
+      answer = to_z-of_z w32 c.refusal_int.result f ∙ (c.refusal_int.ensures ∙ ap status a);
       buffer = h.buffer ∙ ap (λ (t : Bool). buffer_after c.args.path.now t c.args.out.now) b;
       length = ap (λ (r : Result ℕ Refusal). out_after r c.args.len.now) a;
     }

@@ -1,4 +1,4 @@
-use Rattle.std.proofs.Common.{◌≡◌, length, sym, ap, ◌∙◌, le_refl, arith, rules}
+use Rattle.std.proofs.Common.{length, sym, ap, ◌∙◌, le_refl, arith, rules}
 use Rattle.std.proofs.lemmas.Slice.{between_to_end}
 use Rattle.std.proofs.lemmas.List.{drop_all, length-drop}
 use Rattle.smtp.proofs.bytes.from.Goals as goal

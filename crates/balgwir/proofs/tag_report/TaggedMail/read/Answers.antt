@@ -7,17 +7,17 @@ use Rattle.balgwir.specs.Mail.{told}
 use Rattle.balgwir.proofs.Checks.{in_turn, in_order}
 use Rattle.balgwir.proofs.tag_report.TaggedMail.read.Goals as goal
 
-pub returns-in-err-mail : goal.returns-in-err-mail
-returns-in-err-mail c =
-    let e : answered {E = Refusal} {D = Refusal} told (λ e. e) c.from-residual.result ≡ in_turn (mail_line c.args.line.now c.args.covered) c.args.section.now = search rules in
+pub returns-in_err-mail : goal.returns-in_err-mail
+returns-in_err-mail c =
+    let e : answered {E = Refusal} {D = Refusal} told (λ e. e) c.from_residual.result ≡ in_turn (mail_line c.args.line.now c.args.covered) c.args.section.now = search rules in
     e ∙ in_order c.args.line.now c.args.section.now c.args.covered
 
-pub returns-in-err-tag : goal.returns-in-err-tag
-returns-in-err-tag c =
-    let e : answered {E = Refusal} {D = Refusal} told (λ e. e) c.from-residual-in-err-tag.result ≡ in_turn (mail_line c.args.line.now c.args.covered) c.args.section.now = search rules in
+pub returns-in_err-tag : goal.returns-in_err-tag
+returns-in_err-tag c =
+    let e : answered {E = Refusal} {D = Refusal} told (λ e. e) c.from_residual-in_err-tag.result ≡ in_turn (mail_line c.args.line.now c.args.covered) c.args.section.now = search rules in
     e ∙ in_order c.args.line.now c.args.section.now c.args.covered
 
 pub returns : goal.returns
 returns c =
-    let e : Ok (c.in-ok-tag.tag, c.path.result.now) ≡ in_turn (mail_line c.args.line.now c.args.covered) c.args.section.now = search rules in
+    let e : Ok (c.in_ok-tag.tag, c.path.result.now) ≡ in_turn (mail_line c.args.line.now c.args.covered) c.args.section.now = search rules in
     e ∙ in_order c.args.line.now c.args.section.now c.args.covered

@@ -1,4 +1,4 @@
-use Rattle.std.proofs.Common.{◌≡◌, ℕ, ◌≤◌, true, false, length, take, Some, None, Option, sym, refl, ap, ◌∙◌, arith}
+use Rattle.std.proofs.Common.{◌≡◌, ℕ, true, false, length, take, Some, None, Option, sym, refl, ap, ◌∙◌, arith}
 use Rattle.std.proofs.lemmas.Bool.{true≢false, le-ltb, and_parts}
 use Rattle.line.specs.declared.record.Trust.{Trust}
 use Rattle.line.specs.declared.line.Standing.TheVariants.{Closed, Covered}
@@ -7,7 +7,7 @@ use Rattle.line.specs.Calls.{Step, short}
 use Rattle.line.specs.Transcripts.{is_clear, is_closed, sense, sound}
 use Rattle.line.specs.HouseHost.{host_of, house_rule, awaits_handshake}
 use Rattle.line.proofs.Soundness.{sound_quiet}
-use Rattle.line.proofs.HouseKept.{Follows, name_known, follows_quiet, clear_open, cover_done, handshake_met, handshake_lost}
+use Rattle.line.proofs.HouseKept.{name_known, follows_quiet, clear_open, cover_done, handshake_met, handshake_lost}
 use Rattle.line.proofs.house_calls.HouseLineLine.cover.Goals as goal
 
 pub invariant_of-self : goal.invariant_of-self

@@ -1,4 +1,4 @@
-use Rattle.std.proofs.Common.{◌≡◌, ℕ, ◌+◌, ◌-◌, ◌≤◌, min, Bool, length, take, sym, refl, ap, ◌∙◌, arith}
+use Rattle.std.proofs.Common.{◌-◌, min, Bool, length, take, sym, refl, ap, ◌∙◌, arith}
 use Rattle.line.specs.declared.house_host.HouseHost.{HouseHost}
 use Rattle.line.specs.Calls.{Step, piece}
 use Rattle.line.specs.HouseHost.{host_of, house_rule, answer_next}

@@ -1,4 +1,4 @@
-use Rattle.std.proofs.Common.{◌≡◌, ℕ, ◌≤◌, true, false, length, take, Some, None, Ok, Option, sym, refl, ap, ◌∙◌, arith}
+use Rattle.std.proofs.Common.{◌≡◌, ℕ, false, length, take, Some, None, Ok, Option, sym, refl, ap, ◌∙◌, arith}
 use Rattle.std.proofs.lemmas.Bool.{true≢false, le-ltb, and_parts}
 use Rattle.line.specs.declared.line.Standing.TheVariants.{Closed}
 use Rattle.line.specs.declared.state.State.{State}
@@ -7,7 +7,7 @@ use Rattle.line.specs.Transcripts.{is_closed, sense, sound}
 use Rattle.line.specs.HouseHost.{host_of, house_rule, reply_of}
 use Rattle.line.proofs.Soundness.{sound_quiet, take_done}
 use Rattle.line.proofs.HouseLaying.{laid_front}
-use Rattle.line.proofs.HouseKept.{Follows, name_known, follows_quiet, reply_heard, reply_lost}
+use Rattle.line.proofs.HouseKept.{name_known, follows_quiet, reply_heard, reply_lost}
 use Rattle.line.proofs.house_calls.HouseLineLine.take.Goals as goal
 
 pub invariant_of-self : goal.invariant_of-self

@@ -1,4 +1,4 @@
-use Rattle.std.proofs.Common.{◌≡◌, ℕ, ◌≤◌, length, take, refl, ap, ◌∙◌, arith}
+use Rattle.std.proofs.Common.{◌≡◌, length, take, refl, ap, ◌∙◌, arith}
 use Rattle.line.specs.declared.state.State.{State}
 use Rattle.line.specs.Transcripts.{sense, sound}
 use Rattle.line.specs.HouseHost.{host_of, house_rule}

@@ -1,4 +1,4 @@
-use Rattle.std.proofs.Common.{◌≡◌, ◌≤◌, take, ap, ◌∙◌, arith}
+use Rattle.std.proofs.Common.{take, ap, ◌∙◌, arith}
 use Rattle.line.specs.declared.line.Standing.TheVariants.{Closed}
 use Rattle.line.specs.declared.state.State.{State}
 use Rattle.line.specs.Transcripts.{sound}

@@ -1,9 +1,8 @@
-use Rattle.std.proofs.Common.{◌≡◌, ℕ, ◌+◌, ◌-◌, ◌<◌, ◌≤◌, min, true, false, not, length, take, sym, refl, ap, ◌∙◌, arith, rules}
+use Rattle.std.proofs.Common.{◌+◌, ◌-◌, min, length, take, sym, refl, ap, arith}
 use Rattle.line.specs.declared.sheet.Sheet.{Sheet}
-use Rattle.line.specs.Calls.{Step, opening}
+use Rattle.line.specs.Calls.{Step}
 use Rattle.line.specs.Sheet.{sheet_rule}
-use Rattle.line.specs.Transcripts.{sense}
-use Rattle.line.proofs.Soundness.{facts, roomy, Done, open_done, open_tight}
+use Rattle.line.proofs.Soundness.{facts, roomy, open_done, open_tight}
 use Rattle.line.proofs.sheet_calls.SheetLineLine.open.Goals as goal
 
 pub returns-then-not-fits : goal.returns-then-not-fits

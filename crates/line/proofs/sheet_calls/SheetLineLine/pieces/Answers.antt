@@ -1,5 +1,5 @@
-use Rattle.std.proofs.Common.{◌≡◌, ◌+◌, false, length, take, sym, refl, ap, ◌∙◌, arith}
-use Rattle.line.specs.Model.{Connection, piece_count}
+use Rattle.std.proofs.Common.{◌≡◌, false, take, sym, ap, arith}
+use Rattle.line.specs.Model.{piece_count}
 use Rattle.line.specs.Transcripts.{is_closed, name_in, pieces_in}
 use Rattle.line.proofs.Soundness.{facts, opened_as, count_all}
 use Rattle.line.proofs.sheet_calls.SheetLineLine.pieces.Goals as goal

@@ -1,9 +1,8 @@
-use Rattle.std.proofs.Common.{◌≡◌, ℕ, ◌+◌, ◌-◌, ◌<◌, ◌≤◌, min, true, false, not, length, take, sym, refl, ap, ◌∙◌, arith, rules}
+use Rattle.std.proofs.Common.{◌-◌, min, length, take, sym, refl, ap, arith}
 use Rattle.line.specs.declared.sheet.Sheet.{Sheet}
-use Rattle.line.specs.Calls.{Step, putting}
+use Rattle.line.specs.Calls.{Step}
 use Rattle.line.specs.Sheet.{sheet_rule}
-use Rattle.line.specs.Transcripts.{sense}
-use Rattle.line.proofs.Soundness.{facts, roomy, Done, put_done}
+use Rattle.line.proofs.Soundness.{facts, roomy, put_done}
 use Rattle.line.proofs.sheet_calls.SheetLineLine.put.Goals as goal
 
 pub put-self-requires : goal.put-self-requires

@@ -1,13 +1,13 @@
-use Rattle.std.proofs.Common.{◌≡◌, ℕ, ◌≤◌, Bool, true, false, cond, length, take, Some, None, Option, sym, refl, ap, ◌∙◌, arith}
+use Rattle.std.proofs.Common.{◌≡◌, ℕ, false, cond, length, take, Some, None, Option, sym, refl, ap, ◌∙◌, arith}
 use Rattle.std.proofs.lemmas.Bool.Decides.{nat_tests}
 use Rattle.line.specs.declared.line.Standing.TheVariants.{Closed}
 use Rattle.line.specs.declared.state.State.{State}
 use Rattle.line.specs.Calls.{Step, short, fitting}
 use Rattle.line.specs.Layout.{records}
 use Rattle.line.specs.Model.{Bytes}
-use Rattle.line.specs.Sheet.{sheet_rule, reply_on, clear_count, covered_count}
+use Rattle.line.specs.Sheet.{sheet_rule, reply_on, clear_count}
 use Rattle.line.specs.Transcripts.{name_in, pieces_in, sense, sound}
-use Rattle.line.proofs.Soundness.{Facts, facts, sound_quiet, Taken, take_done}
+use Rattle.line.proofs.Soundness.{Facts, facts, sound_quiet, take_done}
 use Rattle.line.proofs.sheet_calls.SheetLineLine.take.Goals as goal
 
 pub invariant_of-self : goal.invariant_of-self

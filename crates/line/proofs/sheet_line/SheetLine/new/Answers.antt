@@ -1,7 +1,7 @@
-use Rattle.std.proofs.Common.{◌≡◌, ℕ, ◌≤◌, true, List, [], length, take, sym, refl, ap, ◌∙◌, subst, arith}
+use Rattle.std.proofs.Common.{◌≡◌, length, take, refl, ap, ◌∙◌, arith}
 use Rattle.line.specs.declared.state.State.{State}
 use Rattle.line.specs.Sheet.{sheet_rule}
-use Rattle.line.specs.Transcripts.{sense, sound, fresh_state}
+use Rattle.line.specs.Transcripts.{sense, sound}
 use Rattle.line.proofs.Soundness.{sound_fresh, sense_fresh}
 use Rattle.line.proofs.sheet_line.SheetLine.new.Goals as goal
 

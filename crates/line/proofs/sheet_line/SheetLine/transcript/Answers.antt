@@ -1,6 +1,5 @@
-use Rattle.std.proofs.Common.{◌≡◌, ℕ, ◌-◌, take, sym, refl, ap, ◌∙◌}
+use Rattle.std.proofs.Common.{◌≡◌, ℕ, ◌-◌, take, sym, ap, ◌∙◌}
 use native.Mathlib.Nat.{sub-zero}
-use Rattle.line.specs.Layout.{LayoutHolds}
 use Rattle.line.proofs.Laws.{layout_holds}
 use Rattle.line.proofs.Soundness.{facts}
 use Rattle.line.proofs.sheet_line.SheetLine.transcript.Goals as goal

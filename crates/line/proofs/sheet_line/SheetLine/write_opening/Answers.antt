@@ -1,5 +1,4 @@
 use Rattle.std.proofs.Common.{◌+◌, length, refl, rules}
-use Rattle.std.proofs.lemmas.List.{length-append}
 use Rattle.line.specs.declared.record.Letter.TheVariants.{Opened}
 use Rattle.line.specs.Calls.{crlf}
 use Rattle.line.specs.Layout.{head_of}

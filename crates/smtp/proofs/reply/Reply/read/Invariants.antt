@@ -1,4 +1,4 @@
-use Rattle.std.proofs.Common.{◌≡◌, ◌+◌, ◌-◌, ◌≤◌, cond, length}
+use Rattle.std.proofs.Common.{◌≡◌, ◌-◌, ◌≤◌, length}
 use Rattle.smtp.specs.Replies.{reply_code}
 use Rattle.smtp.proofs.Reading.{Decides}
 use Rattle.smtp.proofs.reply.Reply.read.Given as goal
