@@ -59,7 +59,7 @@ fn nothing_is_offered(rt: HostRuntime) -> Result<(), Fail> {
     assert!(rt; line.open(b"mx.example").is_ok());
     assert!(rt; line.put(b"EHLO a\r\n").is_ok());
     assert!(rt; matches!(line.take(&mut reply), Ok(Some(26))));
-    assert!(rt; &reply[0..26] == b"250-mx.example\r\n250 HELP\r\n");
+    assert!(rt; &reply[0..26] == b"250-mx.example\r\n250 HELP\r\n".as_slice());
     assert!(rt; line.put(b"STARTTLS\r\n").is_ok());
     assert!(rt; matches!(line.cover(&mut reply), Ok(None)));
     assert!(rt; matches!(line.standing(), Standing::Closed));

@@ -56,7 +56,7 @@ fn nothing_is_due(rt: HostRuntime) -> Result<(), Fail> {
     assert!(rt; line.open(b"a").is_ok());
     assert!(rt; matches!(line.take(&mut reply), Ok(Some(7))));
     assert!(rt; matches!(line.take(&mut reply), Ok(None)));
-    assert!(rt; &reply[0..8] == b"220 a\r\n\t");
+    assert!(rt; &reply[0..8] == b"220 a\r\n\t".as_slice());
     assert!(rt; matches!(line.standing(), Standing::Closed));
     Ok(())
 }
@@ -75,6 +75,6 @@ fn the_longest_name(rt: HostRuntime) -> Result<(), Fail> {
     assert!(rt; line.open(&name).is_ok());
     assert!(rt; line.put(b"EHLO a\r\n").is_ok());
     assert!(rt; matches!(line.take(&mut reply), Ok(Some(283))));
-    assert!(rt; &reply[257..283] == b"\r\n250-STARTTLS\r\n250 HELP\r\n");
+    assert!(rt; &reply[257..283] == b"\r\n250-STARTTLS\r\n250 HELP\r\n".as_slice());
     Ok(())
 }

@@ -132,7 +132,7 @@ fn nothing_is_due(rt: HostRuntime) -> Result<(), Fail> {
         )
     );
     assert!(rt; matches!(line.take(&mut reply), Ok(None)));
-    assert!(rt; &reply[0..18] == b"220 mx1.example\r\n\t");
+    assert!(rt; &reply[0..18] == b"220 mx1.example\r\n\t".as_slice());
     assert!(rt; matches!(line.standing(), Standing::Closed) && line.room() == 75);
     Ok(())
 }
