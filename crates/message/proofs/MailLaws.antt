@@ -3,7 +3,7 @@ use Rattle.std.proofs.Common.{◌≡◌, ℕ, ◌-◌, ◌<◌, ◌≤◌, Bool,
 use Rattle.std.proofs.lemmas.Bool.Decides.{nat_tests}
 use Rattle.std.proofs.lemmas.Bool.{true≢false, and_parts, and_from, eqb-true, eq-eqb, lt-ltb, le-ltb, ltb-true, and_right}
 use Rattle.std.proofs.lemmas.List.{append_assoc, append-nil, length-append, length-map, length-drop, take_at, drop_at, take-append-drop, nil_from_length}
-use Rattle.std.specs.List.{AllByRecursion as All}
+use Rattle.std.specs.List.{AllByRecursion}
 use Rattle.smtp.specs.declared.refusal.Refusal.{Refusal}
 use Rattle.smtp.specs.Bytes.{lowered, same, all, some}
 use Rattle.smtp.specs.Parts.{first_part, other_parts, behind_first}
@@ -138,7 +138,7 @@ our_options : Bool → List (List ℕ)
 our_options true = codes "REQUIRETLS" ∷ []
 our_options false = []
 
-our_texts : (require_tls : Bool) → All OptionText (our_options require_tls)
+our_texts : (require_tls : Bool) → AllByRecursion OptionText (our_options require_tls)
 unfolding our_options
 our_texts true = (options_text (codes "REQUIRETLS" ∷ [])).0 refl
 our_texts false = tt

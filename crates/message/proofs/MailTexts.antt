@@ -4,7 +4,7 @@ use Rattle.std.proofs.lemmas.Bool.Decides.{nat_tests, Decides-and}
 use Rattle.std.proofs.ByRecursion.{Decides-by_and}
 use Rattle.std.proofs.lemmas.Bool.{true≢false, and_parts, and_from, leb-true, le-leb, eqb-true, eq-eqb, or_cases, or_right, cases_Bool}
 use Rattle.std.proofs.lemmas.List.{append-nil, nil_from_length}
-use Rattle.std.specs.List.{flat_map, AllByRecursion as All}
+use Rattle.std.specs.List.{flat_map, AllByRecursion}
 use Rattle.smtp.specs.Bytes.{within, lowered, same, all}
 use Rattle.smtp.specs.Parts.{first_part, other_parts, behind_first}
 use Rattle.smtp.specs.Names.{atom_byte, label_byte, dotted, host_name, address}
@@ -161,11 +161,11 @@ one_option option =
     ((λ e. leb-true 1 (length option) e), (λ h. le-leb 1 (length option) h))
     (Decides-by_and (λ x. within 33 x 126) (λ x. (33 ≤ x) × (x ≤ 126)) (all (λ x. within 33 x 126)) visible refl (λ _ _. refl) option)
 
-pub options_text : (options : List (List ℕ)) → Decides (all option_form options) (All OptionText options)
+pub options_text : (options : List (List ℕ)) → Decides (all option_form options) (AllByRecursion OptionText options)
 options_text options = Decides-by_and option_form OptionText (all option_form) one_option refl (λ _ _. refl) options
 
 -- a blank stands in no option
-option_lacks : (option : List ℕ) → All (λ x. (33 ≤ x) × (x ≤ 126)) option → lacks 32 option ≡ true
+option_lacks : (option : List ℕ) → AllByRecursion (λ x. (33 ≤ x) × (x ≤ 126)) option → lacks 32 option ≡ true
 option_lacks [] h = refl
 option_lacks (x ∷ option) (a, h) =
     let e = option_lacks option h in
@@ -177,7 +177,7 @@ pub blanked_first : (options : List (List ℕ)) → first_part 32 (blanked optio
 blanked_first [] = refl
 blanked_first (o ∷ options) = refl
 
-pub blanked_options : (options : List (List ℕ)) → All OptionText options → other_parts 32 (blanked options) ≡ options
+pub blanked_options : (options : List (List ℕ)) → AllByRecursion OptionText options → other_parts 32 (blanked options) ≡ options
 blanked_options [] h = refl
 blanked_options (o ∷ options) (a, h) =
     let l = option_lacks o a.1 in

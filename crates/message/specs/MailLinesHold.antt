@@ -1,6 +1,6 @@
 -- What a MAIL line is, in other words than its tests, and that reading and writing one undo each other.
 use Rattle.std.specs.Prelude.{◌≡◌, ℕ, ◌≤◌, Bool, true, cond, not, ◌⊎◌, List, [], ◌∷◌, ◌++◌, map, length, take, drop, Ok, Err, codes, Decides, Result, MatchResult, nat_lt}
-use Rattle.std.specs.List.{flat_map, AllByRecursion as All}
+use Rattle.std.specs.List.{flat_map, AllByRecursion}
 use Rattle.smtp.specs.declared.refusal.Refusal.{Refusal}
 use Rattle.smtp.specs.declared.refusal.Refusal.TheVariants.{BadAddress, ShortBuffer}
 use Rattle.smtp.specs.Bytes.{lowered}
@@ -17,14 +17,14 @@ PathText path = (path ≡ []) ⊎ (address path ≡ true)
 
 -- an option: 1 or more bytes of 33 to 126
 abbrev pub OptionText : List ℕ → Type 0
-OptionText option = (1 ≤ length option) × All (λ x. (33 ≤ x) × (x ≤ 126)) option
+OptionText option = (1 ≤ length option) × AllByRecursion (λ x. (33 ≤ x) × (x ≤ 126)) option
 
 -- a line made of its words, a path, `>`, options, each after one blank, and CRLF
 abbrev pub made : List ℕ → List ℕ → List (List ℕ) → List ℕ
 made words path options = words ++ (path ++ (62 ∷ (flat_map (λ option. 32 ∷ option) options ++ crlf)))
 
 abbrev pub Parts : List ℕ → List ℕ → List (List ℕ) → Type 0
-Parts words path options = Alike words mail_from × PathText path × All OptionText options
+Parts words path options = Alike words mail_from × PathText path × AllByRecursion OptionText options
 
 -- a line has its form exactly where it is made of such parts
 abbrev pub FormHolds : Type 0

@@ -3,7 +3,7 @@ ghost use Rattle.std.specs.Iterator.{at_most};
 ghost use Rattle.std.specs.Option.{option_map};
 ghost use Rattle.std.specs.Str.{bytes_eq};
 ghost use Rattle.smtp.specs.Bytes.{all};
-ghost use Rattle.voucher.specs.PolicyLines.{lines, led, without_cr, blank, unled, untrailed, key as keyIn, value as valueIn, is_key, is_field};
+ghost use Rattle.voucher.specs.PolicyLines.{lines, led, without_cr, blank, unled, untrailed, key as key_in, value as value_in, is_key, is_field};
 ghost use Rattle.voucher.specs.Kinds.{kind_of};
 
 use smtp::bytes::{ByteKind, are_all, from, is_digit, is_letter, part_len, upto};
@@ -92,14 +92,14 @@ fn without_trailing<'t>(s: &'t [u8]) -> &'t [u8]
 
 // A line's key: what stands before its first colon.
 pub(crate) fn key_of<'t>(line: &'t [u8]) -> &'t [u8]
-    ensures { result.now ≡ keyIn line.now }
+    ensures { result.now ≡ key_in line.now }
 {
     upto(line, part_len(line, b':'))
 }
 
 // A line's value: what stands behind its first colon, without the blanks and tabs around.
 pub(crate) fn value_of<'t>(line: &'t [u8]) -> &'t [u8]
-    ensures { result.now ≡ valueIn line.now }
+    ensures { result.now ≡ value_in line.now }
 {
     without_trailing(without_leading(from(line, part_len(line, b':') + 1)))
 }
