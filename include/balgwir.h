@@ -1,7 +1,7 @@
 /*
  * balgwir.h: MAIL lines with their tags, and SMTP replies, for a receiving mail daemon in C or C++.
  *
- * Link target/staticlib/libbalgwir_c.a, which `rt staticlib balgwir_c` builds. It needs no other library.
+ * Link crates/balgwir_c/out/libbalgwir_c.a, which `rt lib` in crates/balgwir_c builds. It needs no other library.
  *
  * Bytes. Each text is a pointer and a length in bytes. It needs no byte 0 at its end, and may hold one. The pointer may be null where the
  * length is 0; else it points to that many bytes, which the call may read until it returns. An `out` pointer is never null, and points
