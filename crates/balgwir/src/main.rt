@@ -2,6 +2,8 @@
 
 #![tactic(auto)]
 
+ghost use Rattle.std.specs.Prelude.{◌≡◌};
+
 mod command;
 mod failure;
 mod meaning;
@@ -111,8 +113,10 @@ fn run<'a>(rt: &HostRuntime, words: &'a [String]) -> Result<(), Failure<'a>> {
     Ok(())
 }
 
-// Says on standard error why the program failed.
-fn failed(rt: &HostRuntime, why: impl Display + Drop) -> ExitCode {
+// Says on standard error why the program failed, and gives the status of a failure.
+fn failed(rt: &HostRuntime, why: impl Display + Drop) -> ExitCode
+    ensures { result ≡ ExitCode.FAILURE }
+{
     let _ = eprintln!(rt; "balgwir: {why}");
     ExitCode::FAILURE
 }
