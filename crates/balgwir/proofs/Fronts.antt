@@ -1,16 +1,15 @@
 -- The front of a sheet up to where a record should stand: what is known of it, one record on, and at the first fault.
 use Rattle.std.proofs.Common.{◌≡◌, ℕ, suc, ◌+◌, ◌<◌, ◌≤◌, Bool, true, false, cond, ◌&&◌, ltb, leb, List, [], ◌∷◌, ◌++◌, length, take, drop, is_some, Some, None, sym, refl, ap, ◌∙◌, subst, arith}
 use Rattle.std.proofs.lemmas.Bool.{and_parts, and_from, and_left, and_right, ltb-false, ltb-true, le-leb, lt-leb}
-use Rattle.std.proofs.lemmas.List.{take-append-drop, take-take, drop-take, take_at, length-drop, length_push}
+use Rattle.std.proofs.lemmas.List.{take-append-drop, take-take, drop-take, take_at, length-drop, drop-drop, length_push, nil_from_length}
 use Rattle.smtp.specs.Bytes.{all}
 use Rattle.line.specs.declared.record.Letter.{Letter}
 use Rattle.line.specs.declared.record.Letter.TheVariants.{Opened, Clear, Covered, Reply, Handshake}
 use Rattle.line.specs.Model.{Bytes, Record}
 use Rattle.line.specs.Layout.{written, record_at, records, whole, size_of, size_in}
 use Rattle.line.specs.Sheet.{handshake_of, sheet_bytes, sheet_record, rising, sheet_from, sheet_form}
-use Rattle.line.proofs.Laws.{record_exact, records_more, whole_more, records_nil, whole_nil}
+use Rattle.line.proofs.Laws.{record_exact, records_step, whole_step, records_more, whole_more, records_nil, whole_nil, whole_none}
 use Rattle.line.proofs.Reading.{size_within}
-use Rattle.line.proofs.Searches.{sheet_step, sheet_none, sheet_end}
 use Rattle.balgwir.specs.declared.sheet_fault.Fault.{Fault}
 use Rattle.balgwir.specs.declared.sheet_fault.Fault.TheVariants as fault
 use Rattle.balgwir.specs.SheetFaults.{letter_fault, record_fault, fault_in, least_from, First}
@@ -88,6 +87,35 @@ record_wrong least r w e = go (ltb r.visit least) refl e
     go true t q = and_left (leb least r.visit) (sheet_record r) (lt-leb least r.visit (ltb-true r.visit least t))
     go false t q = and_right (leb least r.visit) (sheet_record r) (letter_wrong r.letter r.bytes w q)
 
+-- what is left of a sheet, by what stands at its front: a record, none, or nothing
+alike : (x y w a z : Bool) → (w && ((y && a) && (x && z))) ≡ ((x && y) && (w && (a && z)))
+alike true true w a z = refl
+alike true false true a z = refl
+alike true false false a z = refl
+alike false y false a z = refl
+alike false true true true z = refl
+alike false true true false z = refl
+alike false false true a z = refl
+
+left_step : (least : ℕ) (s : Bytes) (r : Record) → record_at s ≡ Some r → sheet_from least s ≡ ((leb least r.visit && sheet_record r) && sheet_from r.visit (drop (size_of r) s))
+left_step least s r e =
+    let k = records_step s r e in
+    let w = whole_step s r e in
+    rw (w, k) (alike (leb least r.visit) (sheet_record r) (whole (drop (size_of r) s)) (all sheet_record (records (drop (size_of r) s))) (rising r.visit (records (drop (size_of r) s))))
+
+sheet_step : (least : ℕ) (s : Bytes) (at : ℕ) (r : Record) → record_at (drop at s) ≡ Some r
+    → sheet_from least (drop at s) ≡ ((leb least r.visit && sheet_record r) && sheet_from r.visit (drop (at + size_of r) s))
+sheet_step least s at r e =
+    left_step least (drop at s) r e ∙ ap (λ (t : Bytes). (leb least r.visit && sheet_record r) && sheet_from r.visit t) (drop-drop (size_of r) at s)
+
+sheet_none : (least : ℕ) (s : Bytes) (at : ℕ) → record_at (drop at s) ≡ None → at < length s → sheet_from least (drop at s) ≡ false
+sheet_none least s at e h = rw (whole_none (drop at s) e (omega (arith, length-drop at s)))
+
+sheet_end : (least : ℕ) (s : Bytes) (at : ℕ) → length s ≤ at → sheet_from least (drop at s) ≡ true
+sheet_end least s at h =
+    let e : drop at s ≡ [] = nil_from_length (drop at s) (omega (arith, length-drop at s)) in
+    ap (sheet_from least) e ∙ rw (whole_nil, records_nil)
+
 -- The front of a sheet up to a place: it is a sheet in its form, of one record fewer than the number says, behind which visit numbers go
 -- on from the least; and what is left decides of the whole.
 pub record Front (s : Bytes) (number place least : ℕ) : Type 0 where
@@ -148,10 +176,10 @@ first_layout s number place least f h none = record {
 }
 
 -- a record that breaks the form
-pub first_record : (s : Bytes) (number place least : ℕ) (r : Record) (w : Fault) → Front s number place least → place < length s → record_at (drop place s) ≡ Some r
+pub first_record : (s : Bytes) (number place least : ℕ) (r : Record) (w : Fault) → Front s number place least → record_at (drop place s) ≡ Some r
     → Some w ≡ record_fault least r → First s (record { number = number; place = place; why = w })
-first_record s number place least r w f h is wrong = record {
-  within = h;
+first_record s number place least r w f is wrong = record {
+  within = omega (arith, size_within (drop place s), ap size_in is, length-drop place s, f.within);
   before = f.form;
   counted = f.counted;
   there = ap (fault_in (least_from 1 (records (take place s)))) is ∙ subst (λ (n : ℕ). record_fault n r ≡ Some w) f.goes_on (sym wrong);

@@ -1,3 +1,4 @@
 mod Checks
 mod Fronts
+mod Lines
 mod Spoken

@@ -1,8 +1,9 @@
 -- The commands of the program: the name of each, how many words stand behind it, and what words ask for.
-use Rattle.std.specs.Prelude.{◌≡◌, ℕ, suc, List, [], ◌∷◌, map, length, Ok, Err, string_bytes, codes, Result, ◌≢◌}
+use Rattle.std.specs.Prelude.{◌≡◌, ℕ, suc, List, [], ◌∷◌, length, Ok, Err, codes, Result, ◌≢◌}
 use Rattle.balgwir.specs.declared.verb.Verb.{Verb}
 use Rattle.balgwir.specs.declared.verb.Verb.TheVariants.{Reply, Explain, Covers, Tag, Policy, Sheet, Help}
 use Rattle.balgwir.specs.declared.command.Command.{Command}
+use Rattle.balgwir.specs.declared.command.Command.TheVariants as command
 use Rattle.balgwir.specs.declared.command.UsageError.{UsageError}
 use Rattle.balgwir.specs.declared.command.UsageError.TheVariants.{NoCommand, UnknownCommand, WrongOperands, NotCoverage}
 
@@ -27,7 +28,13 @@ operand_count Help = 0
 
 -- the words that a command is asked for by: its name and its operands
 abbrev pub spoken : Command → List (List ℕ)
-spoken c = verb_name c.verb ∷ map string_bytes c.operands.now
+spoken (command.Reply file) = verb_name Reply ∷ file.now ∷ []
+spoken (command.Explain file) = verb_name Explain ∷ file.now ∷ []
+spoken (command.Covers pattern name) = verb_name Covers ∷ pattern.now ∷ name.now ∷ []
+spoken (command.Tag line header coverage) = verb_name Tag ∷ line.now ∷ header.now ∷ coverage.now ∷ []
+spoken (command.Policy file name) = verb_name Policy ∷ file.now ∷ name.now ∷ []
+spoken (command.Sheet file) = verb_name Sheet ∷ file.now ∷ []
+spoken command.Help = verb_name Help ∷ []
 
 -- words that begin with one
 abbrev pub BeginsWith : List ℕ → List (List ℕ) → Type 0
@@ -41,7 +48,7 @@ Wrong words (UnknownCommand name) = BeginsWith name.now words × ((v : Verb) →
 Wrong words (WrongOperands v) = BeginsWith (verb_name v) words × (length words ≢ suc (operand_count v))
 Wrong words (NotCoverage word) = ⊥
 
--- what words ask for: the command that they spell, with as many operands as it takes, or why they ask for none
+-- what words ask for: the command that they spell, or why they ask for none
 abbrev pub Asked : List (List ℕ) → Result Command UsageError → Type 0
-Asked words (Ok c) = (words ≡ spoken c) × (length c.operands.now ≡ operand_count c.verb)
+Asked words (Ok c) = words ≡ spoken c
 Asked words (Err e) = Wrong words e

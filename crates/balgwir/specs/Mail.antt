@@ -1,21 +1,16 @@
 -- What a MAIL line and a header section say together: the checks that they have to pass, and then the message's tag and its path.
-use Rattle.std.specs.Prelude.{ℕ, Bool, true, false, cond, not, ◌&&◌, List, [], ◌∷◌, length, Ok, Err, codes, Result, nat_le, nat_lt}
+use Rattle.std.specs.Prelude.{ℕ, Bool, true, false, cond, not, ◌&&◌, List, [], ◌∷◌, length, Ok, Err, Result, nat_le, nat_lt}
 use Rattle.smtp.specs.declared.refusal.Refusal.{Refusal}
 use Rattle.smtp.specs.declared.refusal.Refusal.TheVariants.{MailLineTooLong, MailLineForm, UnknownOption, RepeatedOption, RequireTlsInClear, RepeatedTlsRequired, BadContent}
 use Rattle.smtp.specs.Bytes.{all, some}
 use Rattle.message.specs.declared.tag.Tag.{Tag}
-use Rattle.message.specs.declared.tag.Tag.TheVariants.{Required, No, None}
+use Rattle.message.specs.declared.tag.Tag.TheVariants.{Required, None}
 use Rattle.message.specs.Content.{well_formed}
 use Rattle.message.specs.Lines.{lines_of, header}
 use Rattle.message.specs.MailLines.{mail_form, is_known, is_require_tls, repeated, options_of, path_of}
 use Rattle.message.specs.Tags.{fields, tls_required, field_tag}
-use Rattle.balgwir.specs.declared.tag_report.TaggedMail.{TaggedMail}
-
--- how a tag is printed
-abbrev pub tag_name : Tag → List ℕ
-tag_name Required = codes "required"
-tag_name No = codes "no"
-tag_name None = codes "none"
+use Rattle.message.specs.MailParts.{said}
+use Rattle.balgwir.specs.declared.tag_report.MailAnswer.{MailAnswer}
 
 -- the line has the option
 abbrev pub requires : List ℕ → Bool
@@ -53,5 +48,5 @@ tagged_mail line section covered =
     first_failing (checks line section covered) (Ok (tag_by (requires line) (tls_fields section), path_of line))
 
 -- what is held by the reader's answer
-abbrev pub told : TaggedMail → Tag × List ℕ
-told m = (m.tag, m.path.now)
+abbrev pub told : MailAnswer → Tag × List ℕ
+told m = (m.0.tag, (said m.0.line).path)

@@ -1,16 +1,10 @@
 -- What a policy says to one host name.
-use Rattle.std.specs.Prelude.{ℕ, List, Ok, Err, codes, Result}
+use Rattle.std.specs.Prelude.{ℕ, List, Ok, Err, Result}
 use Rattle.smtp.specs.declared.refusal.Refusal.{Refusal}
 use Rattle.voucher.specs.declared.policy.Mode.{Mode}
-use Rattle.voucher.specs.declared.policy.Mode.TheVariants.{Enforce, Testing, None}
 use Rattle.voucher.specs.Policy.{read_policy, policy_set}
 use Rattle.voucher.specs.Voucher.{holds}
 use Rattle.balgwir.specs.declared.policy_report.PolicyAnswer.{PolicyAnswer}
-
-abbrev pub mode_name : Mode → List ℕ
-mode_name Enforce = codes "enforce"
-mode_name Testing = codes "testing"
-mode_name None = codes "none"
 
 abbrev pub answer_by : Result (List ℕ × Mode) Refusal → List ℕ → Result PolicyAnswer Refusal
 answer_by (Ok read) name = Ok (record { mode = read.1; vouched = holds (policy_set read.1 read.0) name })

@@ -1,14 +1,35 @@
-ghost use Rattle.std.specs.Prelude.{◌≡◌, ◌<◌, [], map, length, string_bytes, slice_index_or};
-ghost use Rattle.balgwir.specs.Commands.{Asked};
+ghost use Rattle.std.specs.Prelude.{◌∷◌, map, string_bytes};
+ghost use Rattle.balgwir.specs.Commands.{verb_name, Asked};
 
 use crate::verb::Verb;
 use std::fmt;
 
-// What the program is asked for: a verb, and the words behind it.
+// What the program is asked for: a verb, with the words behind it.
 #[derive(Clone, Copy)]
-pub struct Command<'a> {
-    pub verb: Verb,
-    operands: &'a [String],
+pub enum Command<'a> {
+    Reply {
+        file: &'a str,
+    },
+    Explain {
+        file: &'a str,
+    },
+    Covers {
+        pattern: &'a str,
+        name: &'a str,
+    },
+    Tag {
+        line: &'a str,
+        header: &'a str,
+        coverage: &'a str,
+    },
+    Policy {
+        file: &'a str,
+        name: &'a str,
+    },
+    Sheet {
+        file: &'a str,
+    },
+    Help,
 }
 
 // Why the words behind the program's name ask for nothing.
@@ -30,21 +51,40 @@ impl<'a> Command<'a> {
         let [name, operands @ ..] = words else {
             return Err(UsageError::NoCommand);
         };
-        let Some(verb) = Verb::named(name.as_str()) else {
-            return Err(UsageError::UnknownCommand(name.as_str()));
-        };
-        if operands.len() != verb.operands() {
-            return Err(UsageError::WrongOperands(verb));
-        }
-        Ok(Command { verb, operands })
+        let verb = Verb::try_from(name.as_str())?;
+        Command::with_operands(verb, operands)
     }
 
-    // The operand of a number, counted from 0.
-    pub fn operand(&self, number: usize) -> &'a str
-        requires { number < length self.now.operands.now }
-        ensures { result.now ≡ slice_index_or (map string_bytes self.now.operands.now) number [] }
+    // The command of a verb and the words behind it.
+    fn with_operands(verb: Verb, operands: &'a [String]) -> Result<Command<'a>, UsageError<'a>>
+        ensures { Asked (verb_name verb ∷ map string_bytes operands.now) result }
     {
-        self.operands[number].as_str()
+        match (verb, operands) {
+            (Verb::Reply, [file]) => Ok(Command::Reply {
+                file: file.as_str(),
+            }),
+            (Verb::Explain, [file]) => Ok(Command::Explain {
+                file: file.as_str(),
+            }),
+            (Verb::Covers, [pattern, name]) => Ok(Command::Covers {
+                pattern: pattern.as_str(),
+                name: name.as_str(),
+            }),
+            (Verb::Tag, [line, header, coverage]) => Ok(Command::Tag {
+                line: line.as_str(),
+                header: header.as_str(),
+                coverage: coverage.as_str(),
+            }),
+            (Verb::Policy, [file, name]) => Ok(Command::Policy {
+                file: file.as_str(),
+                name: name.as_str(),
+            }),
+            (Verb::Sheet, [file]) => Ok(Command::Sheet {
+                file: file.as_str(),
+            }),
+            (Verb::Help, []) => Ok(Command::Help),
+            _ => Err(UsageError::WrongOperands(verb)),
+        }
     }
 }
 
@@ -53,11 +93,7 @@ impl fmt::Display for UsageError<'_> {
         match *self {
             UsageError::NoCommand => f.write_str("no command"),
             UsageError::UnknownCommand(command) => write!(f, "unknown command: {command}"),
-            UsageError::WrongOperands(verb) => {
-                let name = verb.name();
-                let needs = verb.needs();
-                write!(f, "{name} needs {needs}")
-            }
+            UsageError::WrongOperands(verb) => write!(f, "{verb} needs {}", verb.needs()),
             UsageError::NotCoverage(word) => {
                 write!(f, "tag needs the word covered or clear last, not {word}")
             }

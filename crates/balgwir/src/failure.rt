@@ -1,3 +1,6 @@
+ghost use Rattle.std.specs.Prelude.{◌≡◌};
+ghost use Rattle.balgwir.specs.declared.failure.Failure.TheVariants.{Usage, System};
+
 use crate::command::UsageError;
 use crate::usage::USAGE;
 use std::{fmt, io};
@@ -12,12 +15,16 @@ pub enum Failure<'a> {
 }
 
 impl<'a> From<UsageError<'a>> for Failure<'a> {
+    ghost from_gives = { λ error failure. failure ≡ Usage error };
+
     fn from(error: UsageError<'a>) -> Failure<'a> {
         Failure::Usage(error)
     }
 }
 
 impl<'a> From<io::Error> for Failure<'a> {
+    ghost from_gives = { λ error failure. failure ≡ System error };
+
     fn from(error: io::Error) -> Failure<'a> {
         Failure::System(error)
     }

@@ -5,11 +5,12 @@
 ghost use Rattle.std.specs.Prelude.{◌≡◌};
 
 mod command;
+mod coverage;
 mod failure;
 mod meaning;
 mod policy_report;
-mod refusal_report;
 mod reply_report;
+mod report;
 mod sheet_fault;
 mod sheet_report;
 mod tag_report;
@@ -17,21 +18,22 @@ mod text;
 mod usage;
 mod verb;
 
-use command::{Command, UsageError};
+use command::Command;
+use coverage::Coverage;
 use failure::Failure;
 use meaning::Meaning;
-use policy_report::{PolicyAnswer, PolicyReport};
+use policy_report::PolicyAnswer;
 use reply_report::ReplyReport;
+use report::Report;
 use sheet_report::SheetReport;
 use smtp::Reply;
 use smtp::names::covers;
 use std::fmt::Display;
 use std::process::ExitCode;
 use std::{env, fs, io};
-use tag_report::{TagReport, TaggedMail, covered_named};
-use text::yes_no;
+use tag_report::MailAnswer;
+use text::YesNo;
 use usage::USAGE;
-use verb::Verb;
 
 // The words behind the program's name.
 fn words(rt: &HostRuntime) -> io::Result<Vec<String>> {
@@ -39,11 +41,9 @@ fn words(rt: &HostRuntime) -> io::Result<Vec<String>> {
     Ok(words)
 }
 
+// What a file holds. Here and below the handle is passed beside the file, since whatever reads or prints takes it.
 fn contents<'a>(rt: &HostRuntime, file: &'a str) -> Result<Vec<u8>, Failure<'a>> {
-    match fs::read(rt, file) {
-        Ok(bytes) => Ok(bytes),
-        Err(error) => Err(Failure::Unreadable { file, error }),
-    }
+    fs::read(rt, file).map_err(|error| Failure::Unreadable { file, error })
 }
 
 fn reply<'a>(rt: &HostRuntime, file: &'a str) -> Result<(), Failure<'a>> {
@@ -65,20 +65,18 @@ fn tag<'a>(
     header: &'a str,
     coverage: &'a str,
 ) -> Result<(), Failure<'a>> {
-    let Some(covered) = covered_named(coverage) else {
-        return Err(Failure::Usage(UsageError::NotCoverage(coverage)));
-    };
+    let coverage = Coverage::try_from(coverage)?;
     let line = contents(rt, line)?;
     let section = contents(rt, header)?;
-    let mail = TaggedMail::read(line.as_slice(), section.as_slice(), covered);
-    print!(rt; "{}", TagReport(mail))?;
+    let answer = MailAnswer::of(line.as_slice(), coverage, section.as_slice());
+    print!(rt; "{}", Report(answer))?;
     Ok(())
 }
 
 fn policy<'a>(rt: &HostRuntime, file: &'a str, name: &str) -> Result<(), Failure<'a>> {
     let text = contents(rt, file)?;
     let answer = PolicyAnswer::of(text.as_slice(), name.as_bytes());
-    print!(rt; "{}", PolicyReport(answer))?;
+    print!(rt; "{}", Report(answer))?;
     Ok(())
 }
 
@@ -88,27 +86,23 @@ fn sheet<'a>(rt: &HostRuntime, file: &'a str) -> Result<(), Failure<'a>> {
     Ok(())
 }
 
-// Does what the words ask for.
+// Does what the words ask for. By match: the check sees that no command is missing.
 fn run<'a>(rt: &HostRuntime, words: &'a [String]) -> Result<(), Failure<'a>> {
-    let command = Command::parse(words)?;
-    match command.verb {
-        Verb::Reply => reply(rt, command.operand(0))?,
-        Verb::Explain => explain(rt, command.operand(0))?,
-        Verb::Covers => {
-            let pattern = command.operand(0);
-            let name = command.operand(1);
-            let covered = yes_no(covers(pattern.as_bytes(), name.as_bytes()));
+    match Command::parse(words)? {
+        Command::Reply { file } => reply(rt, file)?,
+        Command::Explain { file } => explain(rt, file)?,
+        Command::Covers { pattern, name } => {
+            let covered = YesNo(covers(pattern.as_bytes(), name.as_bytes()));
             println!(rt; "covered: {covered}")?;
         }
-        Verb::Tag => tag(
-            rt,
-            command.operand(0),
-            command.operand(1),
-            command.operand(2),
-        )?,
-        Verb::Policy => policy(rt, command.operand(0), command.operand(1))?,
-        Verb::Sheet => sheet(rt, command.operand(0))?,
-        Verb::Help => println!(rt; "{USAGE}")?,
+        Command::Tag {
+            line,
+            header,
+            coverage,
+        } => tag(rt, line, header, coverage)?,
+        Command::Policy { file, name } => policy(rt, file, name)?,
+        Command::Sheet { file } => sheet(rt, file)?,
+        Command::Help => println!(rt; "{USAGE}")?,
     }
     Ok(())
 }

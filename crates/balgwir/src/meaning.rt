@@ -43,10 +43,10 @@ pub enum Answer {
     Refused,
 }
 
-impl Answer {
-    pub fn of(code: u16) -> Answer
-        ensures { result ≡ answer_of code }
-    {
+impl From<u16> for Answer {
+    ghost from_gives = { λ code answer. answer ≡ answer_of code };
+
+    fn from(code: u16) -> Answer {
         match code {
             250 => Answer::Accepted,
             400..=499 => Answer::Down,
@@ -113,7 +113,7 @@ impl fmt::Display for Meaning<'_> {
         let Some(reply) = self.0 else {
             return f.write_str(MALFORMED);
         };
-        match Answer::of(reply.code()) {
+        match Answer::from(reply.code()) {
             Answer::Accepted => write!(f, "{}", Offer(reply)),
             Answer::Down => f.write_str(DOWN),
             Answer::Refused => f.write_str(REFUSED),

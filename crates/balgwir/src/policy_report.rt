@@ -1,22 +1,12 @@
-ghost use Rattle.std.specs.Prelude.{◌≡◌};
-ghost use Rattle.balgwir.specs.Policies.{mode_name, policy_answer};
+ghost use Rattle.std.specs.Prelude.{◌≡◌, ◌++◌, Some, codes};
+ghost use Rattle.voucher.specs.Policy.{mode_name};
+ghost use Rattle.balgwir.specs.Policies.{policy_answer};
+ghost use Rattle.balgwir.specs.Words.{yes_no};
 
-use crate::refusal_report::RefusalReport;
-use crate::text::yes_no;
+use crate::text::YesNo;
 use smtp::Refusal;
 use std::fmt;
 use voucher::{Mode, Policy, Voucher};
-
-// How a policy's mode is printed.
-fn mode_name(mode: Mode) -> &'static str
-    ensures { result.now ≡ mode_name mode }
-{
-    match mode {
-        Mode::Enforce => "enforce",
-        Mode::Testing => "testing",
-        Mode::None => "none",
-    }
-}
 
 // What a policy says to one name: its mode, and whether it vouches for the name.
 #[derive(Clone, Copy)]
@@ -38,20 +28,12 @@ impl PolicyAnswer {
     }
 }
 
-// What is printed of a policy and a name: the mode and the answer, or the refusal.
-#[derive(Clone, Copy)]
-pub struct PolicyReport(pub Result<PolicyAnswer, Refusal>);
+impl fmt::Display for PolicyAnswer {
+    ghost output = { λ a. Some (codes "mode: " ++ (mode_name a.mode ++ (codes "\nvouched: " ++ (yes_no a.vouched ++ codes "\n")))) };
 
-impl fmt::Display for PolicyReport {
     fn fmt<W: fmt::Write>(&self, f: &mut fmt::Formatter<W>) -> fmt::Result {
-        match self.0 {
-            Ok(answer) => {
-                let mode = mode_name(answer.mode);
-                let vouched = yes_no(answer.vouched);
-                writeln!(f, "mode: {mode}")?;
-                writeln!(f, "vouched: {vouched}")
-            }
-            Err(refusal) => write!(f, "{}", RefusalReport(refusal)),
-        }
+        let mode = self.mode;
+        let vouched = YesNo(self.vouched);
+        writeln!(f, "mode: {mode}\nvouched: {vouched}")
     }
 }

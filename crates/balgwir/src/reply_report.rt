@@ -1,6 +1,6 @@
 ghost use Rattle.std.specs.Prelude.{[], ◌++◌, if◌then◌else◌, Some, codes, decimal};
 
-use crate::text::{text_of, yes_no};
+use crate::text::{YesNo, text_of};
 use smtp::{Reply, ReplyLine};
 use std::fmt;
 
@@ -42,8 +42,8 @@ impl fmt::Display for ReplyReport<'_> {
                 writeln!(f, "{}", KeywordLine { word, place, alone })?;
             }
         }
-        let starttls = yes_no(reply.lists(b"STARTTLS"));
-        let requiretls = yes_no(reply.lists(b"REQUIRETLS"));
+        let starttls = YesNo(reply.lists(b"STARTTLS"));
+        let requiretls = YesNo(reply.lists(b"REQUIRETLS"));
         writeln!(f, "starttls: {starttls}")?;
         writeln!(f, "requiretls: {requiretls}")
     }

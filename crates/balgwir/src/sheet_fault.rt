@@ -3,9 +3,8 @@ ghost use Rattle.line.specs.Entries.{record_of};
 ghost use Rattle.balgwir.specs.SheetFaults.{record_fault, FirstFault};
 ghost use Rattle.balgwir.specs.Words.{one_line};
 
-use line::{Entry, HandshakeAnswer, Letter};
+use line::{Entries, Entry, HandshakeAnswer, Letter};
 use smtp::Refusal;
-use smtp::bytes::from;
 use std::fmt;
 
 // Why a record breaks the form of a sheet.
@@ -37,7 +36,7 @@ impl Fault {
         }
     }
 
-    // The end of a sentence that begins with the record.
+    // The end of a sentence that begins with the record. As a text, whose clause says that it is one line.
     fn text(self) -> &'static str
         ensures { one_line result.now ≡ true }
     {
@@ -64,25 +63,26 @@ pub struct SheetFault {
 pub fn first_fault(sheet: &[u8]) -> Option<SheetFault>
     ensures { FirstFault sheet.now result }
 {
+    // Number and place are counted beside the records, since they are needed behind the last of them too.
     let mut number: usize = 1;
     let mut place: usize = 0;
     let mut least: usize = 1;
-    while place < sheet.len() {
-        let Some(entry) = Entry::read(from(sheet, place)) else {
-            return Some(SheetFault {
-                number,
-                place,
-                why: Fault::Layout,
-            });
-        };
+    for entry in Entries::of(sheet) {
         if let Some(why) = Fault::of(entry, least) {
             return Some(SheetFault { number, place, why });
         }
-        least = entry.visit;
-        place += entry.size();
         number += 1;
+        place += entry.size();
+        least = entry.visit;
     }
-    None
+    if place == sheet.len() {
+        return None;
+    }
+    Some(SheetFault {
+        number,
+        place,
+        why: Fault::Layout,
+    })
 }
 
 impl fmt::Display for SheetFault {
@@ -91,7 +91,9 @@ impl fmt::Display for SheetFault {
         let number = self.number;
         let place = self.place;
         let text = self.why.text();
-        writeln!(f, "refused: {refused}")?;
-        writeln!(f, "reason: Record {number}, at offset {place}, {text}")
+        writeln!(
+            f,
+            "refused: {refused}\nreason: Record {number}, at offset {place}, {text}"
+        )
     }
 }

@@ -1,71 +1,87 @@
-ghost use Rattle.std.specs.Prelude.{◌≡◌, ◌≤◌, length};
-ghost use Rattle.smtp.specs.Replies.{crlf_first};
-ghost use Rattle.balgwir.specs.Shown.{line_len, ends_in_crlf, end_note, trust_name};
+ghost use Rattle.std.specs.Prelude.{◌≡◌, ◌≤◌, Some, length};
+ghost use Rattle.std.specs.Iterator.{at_most};
+ghost use Rattle.std.specs.List.{flat_map};
+ghost use Rattle.balgwir.specs.Shown.{shown_byte, line_len, ends_in_crlf, end_note};
 
 use crate::sheet_fault::first_fault;
 use crate::text::text_of;
-use line::{Entry, HandshakeAnswer, Letter, Trust};
+use line::{Entries, Entry, HandshakeAnswer, Letter};
 use smtp::bytes::{from, upto};
 use std::fmt;
-
-// Whether CRLF stands at the front.
-fn is_crlf(s: &[u8]) -> bool
-    ensures { result ≡ crlf_first s.now }
-{
-    s.len() > 1 && s[0] == b'\r' && s[1] == b'\n'
-}
 
 // How many bytes stand before the first CRLF, or before the end.
 fn line_len(s: &[u8]) -> usize
     ensures is { result ≡ line_len s.now }
     ensures within { result ≤ length s.now }
 {
-    for i in 0..s.len() {
-        if is_crlf(from(s, i)) {
-            return i;
-        }
-    }
-    s.len()
+    let first = s.windows(2).position(|pair| pair == b"\r\n".as_slice());
+    first.unwrap_or(s.len())
 }
 
-fn ends_in_crlf(s: &[u8]) -> bool
-    ensures { result ≡ ends_in_crlf s.now }
-{
-    let n = s.len();
-    n >= 2 && is_crlf(from(s, n - 2))
+// The lines of a reply that are still to be handed out. CRLF ends a line.
+#[derive(Drop)]
+struct Lines<'s> {
+    rest: &'s [u8],
+}
+
+impl<'s> Iterator for Lines<'s> {
+    type Item = &'s [u8];
+
+    ghost remaining = { λ s. at_most (length s.rest.now) };
+
+    fn next(&mut self) -> Option<&'s [u8]> {
+        let rest = self.rest;
+        if rest.is_empty() {
+            return None;
+        }
+        let n = line_len(rest);
+        self.rest = from(rest, n + 2);
+        Some(upto(rest, n))
+    }
 }
 
 // What is said of the end of a reply: nothing where it is CRLF.
-fn end_note(crlf: bool) -> &'static str
-    ensures { result.now ≡ end_note crlf }
-{
-    if crlf { "" } else { ", no CRLF at the end" }
-}
+#[derive(Clone, Copy)]
+struct EndNote<'s>(&'s [u8]);
 
-// How a trust is printed.
-fn trust_name(trust: Trust) -> &'static str
-    ensures { result.now ≡ trust_name trust }
-{
-    match trust {
-        Trust::None => "none",
-        Trust::Chain => "chain",
-        Trust::Dane => "DANE",
+impl fmt::Display for EndNote<'_> {
+    ghost output = { λ reply. Some (end_note (ends_in_crlf reply.0.now)) };
+
+    fn fmt<W: fmt::Write>(&self, f: &mut fmt::Formatter<W>) -> fmt::Result {
+        f.write_str(if self.0.ends_with(b"\r\n") {
+            ""
+        } else {
+            ", no CRLF at the end"
+        })
     }
 }
 
-// A line as it is printed: bytes of 32 to 126 as they are, and others as `\x` and two digits.
+// A byte as it is printed: one of 32 to 126 as it is, and another as `\x` and two digits.
+#[derive(Clone, Copy)]
+struct ShownByte(u8);
+
+impl fmt::Display for ShownByte {
+    ghost output = { λ b. Some (shown_byte b.0) };
+
+    fn fmt<W: fmt::Write>(&self, f: &mut fmt::Formatter<W>) -> fmt::Result {
+        let b = self.0;
+        match b {
+            b' '..=b'~' => write!(f, "{}", char::from(b)),
+            _ => write!(f, "\\x{b:02x}"),
+        }
+    }
+}
+
+// A line as it is printed, byte by byte.
 #[derive(Clone, Copy)]
 struct ShownLine<'s>(&'s [u8]);
 
 impl fmt::Display for ShownLine<'_> {
+    ghost output = { λ line. Some (flat_map shown_byte line.0.now) };
+
     fn fmt<W: fmt::Write>(&self, f: &mut fmt::Formatter<W>) -> fmt::Result {
         for b in self.0 {
-            let b = *b;
-            if b >= b' ' && b <= b'~' {
-                write!(f, "{}", char::from(b))?;
-            } else {
-                write!(f, "\\x{b:02x}")?;
-            }
+            write!(f, "{}", ShownByte(*b))?;
         }
         Ok(())
     }
@@ -77,11 +93,8 @@ struct ShownReply<'s>(&'s [u8]);
 
 impl fmt::Display for ShownReply<'_> {
     fn fmt<W: fmt::Write>(&self, f: &mut fmt::Formatter<W>) -> fmt::Result {
-        let mut rest = self.0;
-        while !rest.is_empty() {
-            let n = line_len(rest);
-            writeln!(f, "  {}", ShownLine(upto(rest, n)))?;
-            rest = from(from(rest, n), 2);
+        for line in (Lines { rest: self.0 }) {
+            writeln!(f, "  {}", ShownLine(line))?;
         }
         Ok(())
     }
@@ -95,21 +108,27 @@ impl fmt::Display for ShownRecord<'_> {
     fn fmt<W: fmt::Write>(&self, f: &mut fmt::Formatter<W>) -> fmt::Result {
         let visit = self.0.visit;
         let bytes = self.0.bytes;
-        if let Letter::Reply = self.0.letter {
-            let n = bytes.len();
-            let end = end_note(ends_in_crlf(bytes));
-            writeln!(f, "visit {visit} reply, {n} bytes{end}:")?;
-            write!(f, "{}", ShownReply(bytes))?;
-        } else if let Some(answer) = HandshakeAnswer::read(bytes) {
-            let number = answer.trust.number();
-            let name = trust_name(answer.trust);
-            let names = text_of(answer.names);
-            writeln!(
-                f,
-                "visit {visit} handshake, trust {number} ({name}), names: {names}"
-            )?;
+        match self.0.letter {
+            Letter::Reply => {
+                let n = bytes.len();
+                let end = EndNote(bytes);
+                let reply = ShownReply(bytes);
+                write!(f, "visit {visit} reply, {n} bytes{end}:\n{reply}")
+            }
+            Letter::Handshake => {
+                let Some(answer) = HandshakeAnswer::read(bytes) else {
+                    return Ok(());
+                };
+                let trust = answer.trust;
+                let number = trust.number();
+                let names = text_of(answer.names);
+                writeln!(
+                    f,
+                    "visit {visit} handshake, trust {number} ({trust}), names: {names}"
+                )
+            }
+            Letter::Opened | Letter::Clear | Letter::Covered => Ok(()),
         }
-        Ok(())
     }
 }
 
@@ -125,10 +144,8 @@ impl fmt::Display for SheetReport<'_> {
         if self.0.is_empty() {
             return writeln!(f, "no records");
         }
-        let mut rest = self.0;
-        while let Some(entry) = Entry::read(rest) {
+        for entry in Entries::of(self.0) {
             write!(f, "{}", ShownRecord(entry))?;
-            rest = from(rest, entry.size());
         }
         Ok(())
     }

@@ -1,21 +1,24 @@
-ghost use Rattle.std.specs.Prelude.{◌≡◌, IsUtf8};
+ghost use Rattle.std.specs.Prelude.{◌≡◌, IsUtf8, Some};
 ghost use Rattle.balgwir.specs.Words.{yes_no};
 
+use std::fmt;
 use std::str::from_utf8;
 
-// How an answer is printed.
-pub fn yes_no(answer: bool) -> &'static str
-    ensures { result.now ≡ yes_no answer }
-{
-    if answer { "yes" } else { "no" }
+// An answer, as it is printed.
+#[derive(Clone, Copy)]
+pub struct YesNo(pub bool);
+
+impl fmt::Display for YesNo {
+    ghost output = { λ answer. Some (yes_no answer.0) };
+
+    fn fmt<W: fmt::Write>(&self, f: &mut fmt::Formatter<W>) -> fmt::Result {
+        f.write_str(if self.0 { "yes" } else { "no" })
+    }
 }
 
 // A keyword or a path as text. Each is of bytes below 128, so that it always is text.
 pub fn text_of(word: &[u8]) -> &str
     ensures { IsUtf8 word.now → result.now ≡ word.now }
 {
-    match from_utf8(word) {
-        Ok(text) => text,
-        Err(_) => "?",
-    }
+    from_utf8(word).unwrap_or("?")
 }

@@ -1,8 +1,11 @@
-ghost use Rattle.std.specs.Prelude.{◌≡◌, true};
-ghost use Rattle.balgwir.specs.Commands.{verb_name, operand_count};
+ghost use Rattle.std.specs.Prelude.{◌≡◌, true, Some};
+ghost use Rattle.balgwir.specs.Commands.{verb_name};
 ghost use Rattle.balgwir.specs.Words.{Names, one_line};
 
-// What the program can be asked for. Each has a name, and a number of words behind it.
+use crate::command::UsageError;
+use std::fmt;
+
+// What the program can be asked for.
 #[derive(Clone, Copy)]
 pub enum Verb {
     Reply,
@@ -14,24 +17,18 @@ pub enum Verb {
     Help,
 }
 
-impl Verb {
-    // The verb of a name.
-    pub fn named(name: &str) -> Option<Verb>
-        ensures { Names verb_name name.now result }
-    {
-        match name {
-            "reply" => Some(Verb::Reply),
-            "explain" => Some(Verb::Explain),
-            "covers" => Some(Verb::Covers),
-            "tag" => Some(Verb::Tag),
-            "policy" => Some(Verb::Policy),
-            "sheet" => Some(Verb::Sheet),
-            "help" => Some(Verb::Help),
-            _ => None,
-        }
-    }
+const VERBS: [Verb; 7] = [
+    Verb::Reply,
+    Verb::Explain,
+    Verb::Covers,
+    Verb::Tag,
+    Verb::Policy,
+    Verb::Sheet,
+    Verb::Help,
+];
 
-    pub fn name(self) -> &'static str
+impl Verb {
+    fn name(self) -> &'static str
         ensures { result.now ≡ verb_name self }
     {
         match self {
@@ -45,19 +42,7 @@ impl Verb {
         }
     }
 
-    // How many words stand behind the name.
-    pub fn operands(self) -> usize
-        ensures { result ≡ operand_count self }
-    {
-        match self {
-            Verb::Help => 0,
-            Verb::Reply | Verb::Explain | Verb::Sheet => 1,
-            Verb::Covers | Verb::Policy => 2,
-            Verb::Tag => 3,
-        }
-    }
-
-    // Which words these are, for people.
+    // Which words stand behind the name, for people. As a text, whose clause says that it is one line.
     pub fn needs(self) -> &'static str
         ensures { one_line result.now ≡ true }
     {
@@ -69,5 +54,30 @@ impl Verb {
             Verb::Policy => "exactly one file and a name",
             Verb::Help => "no more words",
         }
+    }
+}
+
+// The verb of a name.
+impl<'a> TryFrom<&'a str> for Verb {
+    type Error = UsageError<'a>;
+
+    ghost use Rattle.balgwir.specs.declared.command.UsageError.TheVariants.{UnknownCommand};
+
+    ghost try_from_gives = { λ name r. Names verb_name name.now (UnknownCommand name) r };
+
+    fn try_from(name: &'a str) -> Result<Verb, UsageError<'a>> {
+        VERBS
+            .iter()
+            .copied()
+            .find(|verb| verb.name() == name)
+            .ok_or(UsageError::UnknownCommand(name))
+    }
+}
+
+impl fmt::Display for Verb {
+    ghost output = { λ verb. Some (verb_name verb) };
+
+    fn fmt<W: fmt::Write>(&self, f: &mut fmt::Formatter<W>) -> fmt::Result {
+        f.write_str(self.name())
     }
 }

@@ -1,6 +1,7 @@
 -- The laws of the calls, from those of MAIL lines, tags and replies.
 use Rattle.std.proofs.Common.{◌≡◌, ℕ, ◌+◌, ◌-◌, ◌≤◌, Bool, true, false, cond, not, ◌&&◌, ltb, leb, List, [], ◌∷◌, ◌++◌, length, take, pos, Ok, Err, Decides, Result, sym, refl, ap, ◌∙◌, subst, arith, length-append, length-drop, length-take}
 use Rattle.std.proofs.lemmas.Bool.{and_parts, ltb-true, ltb-false, leb-true}
+use Rattle.std.specs.Result.{result_map_both}
 use Rattle.smtp.specs.declared.refusal.Refusal.{Refusal}
 use Rattle.smtp.specs.declared.refusal.Refusal.TheVariants.{MailLineTooLong, MailLineForm, UnknownOption, RepeatedOption, RequireTlsInClear, BadContent, BadAddress, ShortBuffer}
 use Rattle.smtp.specs.Bytes.{all, within}
@@ -13,13 +14,20 @@ use Rattle.message.specs.declared.tag.Tag.TheVariants.{Required, No, None}
 use Rattle.message.specs.Content.{well_formed}
 use Rattle.message.specs.Lines.{lines_of, header}
 use Rattle.message.specs.MailLines.{Mail, mail_of, mail_line, mail_form, ends, path_part, options_part, inner, path_of, options_of, path_form, is_known, repeated, written, writing, mail_from, ending}
+use Rattle.message.specs.TaggedMails as mails
 use Rattle.message.specs.Tags.{fields, tls_required, tag_of, tagged, says_no}
 use Rattle.message.proofs.MailLaws.{place_holds}
 use Rattle.message.proofs.MailWriting.{path_length, ending_length}
 use Rattle.balgwir_c.specs.declared.mail.TaggedMail.{TaggedMail}
-use Rattle.balgwir_c.specs.Calls.{tagged_mail, behind_line, told_in, told, status}
+use Rattle.balgwir_c.specs.Calls.{tagged_mail, told, status}
 use Rattle.balgwir_c.specs.CallsHold.{CallsHold, PathIn, has_option, two_or_more, tag_checks, write_checks, first_failing}
 use Rattle.balgwir_c.specs.Numbers.{tag_int}
+
+abbrev told_in : Mail → Result Tag Refusal → Result TaggedMail Refusal
+told_in mail r = result_map_both told (λ e. e) (result_map_both (λ tag. (mail, tag)) (λ e. e) r)
+
+abbrev behind_line : Result Mail Refusal → List ℕ → Result TaggedMail Refusal
+behind_line r section = result_map_both told (λ e. e) (mails.behind_line r section)
 
 -- the line's checks, and behind them a number that the section gives
 line_table : (long form known two clear : Bool) (mail : Mail) (section : List ℕ) (k : ℕ) → status (told_in mail (tagged mail.require_tls section)) ≡ pos k →
@@ -74,7 +82,7 @@ mail_is line covered mail e =
     line_accepted (ltb 523 (length line)) (mail_form line) (all is_known (options_of line)) (repeated (options_of line)) (has_option line && not covered) (mail_of line) mail e
 
 -- the place and the length that are told
-told_is : (mail : Mail) (r : Result Tag Refusal) (t : TaggedMail) → told_in mail r ≡ Ok t → (tag : Tag) × (r ≡ Ok tag) × (told mail tag ≡ t)
+told_is : (mail : Mail) (r : Result Tag Refusal) (t : TaggedMail) → told_in mail r ≡ Ok t → (tag : Tag) × (r ≡ Ok tag) × (told (mail, tag) ≡ t)
 told_is mail (Ok tag) t e = (tag, refl, cc)
 told_is mail (Err d) t e = absurd (let z : ◌≡◌ {A = ℕ} 0 1 = cc in omega arith)
 

@@ -1,30 +1,22 @@
 -- What each call that C links answers, and what it leaves in the memory that it is lent.
 use Rattle.std.specs.Prelude.{ℕ, Bool, false, cond, List, length, ℤ, pos, Ok, Err, Result}
+use Rattle.std.specs.Result.{result_map_both}
 use Rattle.smtp.specs.declared.refusal.Refusal.{Refusal}
 use Rattle.smtp.specs.Keywords.{listed}
 use Rattle.smtp.specs.Replies.{well_formed, reply_code}
 use Rattle.message.specs.declared.tag.Tag.{Tag}
-use Rattle.message.specs.MailLines.{Mail, mail_line}
-use Rattle.message.specs.Tags.{tagged}
+use Rattle.message.specs.MailLines.{Mail}
+use Rattle.message.specs.TaggedMails.{tagged_mail as mail_read}
 use Rattle.balgwir_c.specs.declared.mail.TaggedMail.{TaggedMail}
 use Rattle.balgwir_c.specs.Numbers.{refusal_int, tag_int, bool_int}
 
 -- what is told of a message: where the path lies in its MAIL line, and its tag
-abbrev pub told : Mail → Tag → TaggedMail
-told mail tag = record { path_place = mail.place; path_len = length mail.path; tag = tag_int tag }
-
-abbrev pub told_in : Mail → Result Tag Refusal → Result TaggedMail Refusal
-told_in mail (Ok tag) = Ok (told mail tag)
-told_in mail (Err e) = Err e
-
--- behind a MAIL line that is refused the section is not read
-abbrev pub behind_line : Result Mail Refusal → List ℕ → Result TaggedMail Refusal
-behind_line (Ok mail) section = told_in mail (tagged mail.require_tls section)
-behind_line (Err e) section = Err e
+abbrev pub told : Mail × Tag → TaggedMail
+told (mail, tag) = record { path_place = mail.place; path_len = length mail.path; tag = tag_int tag }
 
 -- a MAIL line, which came covered by TLS or not, and a header section: the line's refusals, 1 to 5, come before the section's, 6 and 9
 abbrev pub tagged_mail : List ℕ → Bool → List ℕ → Result TaggedMail Refusal
-tagged_mail line covered section = behind_line (mail_line line covered) section
+tagged_mail line covered section = result_map_both told (λ e. e) (mail_read line covered section)
 
 -- a call answers 0, or the number by which it is refused
 abbrev pub status : {A : Type 0} → Result A Refusal → ℤ

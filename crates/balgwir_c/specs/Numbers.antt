@@ -1,5 +1,6 @@
 -- The numbers that go between C and the library: flags, refusals and tags.
-use Rattle.std.specs.Prelude.{Bool, true, false, not, ℤ, pos, negsuc, ◌==◌}
+use Rattle.std.specs.Prelude.{Bool, true, not, ℤ, pos, negsuc, ◌==◌}
+use Rattle.std.specs.Int.{from_bool}
 use Rattle.smtp.specs.declared.refusal.Refusal.{Refusal}
 use Rattle.smtp.specs.Refusals.{number_of}
 use Rattle.message.specs.declared.tag.Tag.{Tag}
@@ -22,5 +23,4 @@ tag_int None = pos 3
 
 -- a yes is 1, and a no is 0
 abbrev pub bool_int : Bool → ℤ
-bool_int true = pos 1
-bool_int false = pos 0
+bool_int b = pos (from_bool b)

@@ -4,6 +4,7 @@
 
 ghost use Rattle.balgwir_c.specs.CallsHold.{CallsHold};
 
+mod answer;
 pub mod mail;
 mod number;
 pub mod reply;

@@ -3,9 +3,10 @@ ghost use Rattle.balgwir_c.specs.Calls.{tagged_mail, status, out_after};
 ghost use Rattle.balgwir_c.specs.Numbers.{yes};
 ghost use Rattle.message.specs.MailLines.{writing, buffer_after};
 
-use crate::number::{is_set, refusal_int, tag_int};
-use message::mail_line::{MailLine, write_mail_line};
-use message::tag::Tag;
+use crate::answer::answer;
+use crate::number::{is_set, tag_int};
+use message::mail_line::write_mail_line;
+use message::tagged;
 use smtp::Refusal;
 
 // What the caller is told of a message: where the path lies in its MAIL line, and the number of its tag.
@@ -22,12 +23,11 @@ impl TaggedMail {
     fn read(line: &[u8], covered: bool, section: &[u8]) -> Result<TaggedMail, Refusal>
         ensures { result ≡ tagged_mail line.now covered section.now }
     {
-        let mail = MailLine::read(line, covered)?;
-        let tag = Tag::read(mail.require_tls(), section)?;
+        let mail = tagged::TaggedMail::read(line, covered, section)?;
         Ok(TaggedMail {
-            path_place: mail.place(),
-            path_len: mail.path().len(),
-            tag: tag_int(tag),
+            path_place: mail.line.place(),
+            path_len: mail.line.path().len(),
+            tag: tag_int(mail.tag),
         })
     }
 }
@@ -44,13 +44,7 @@ pub extern "C" fn balgwir_tag(
     ensures answer { result ≡ status (tagged_mail line.now (yes covered) section.now) }
     ensures told { out.new ≡ out_after (tagged_mail line.now (yes covered) section.now) out.old }
 {
-    match TaggedMail::read(line, is_set(covered), section) {
-        Ok(mail) => {
-            *out = mail;
-            0
-        }
-        Err(refusal) => refusal_int(refusal),
-    }
+    answer(TaggedMail::read(line, is_set(covered), section), out)
 }
 
 // Writes a MAIL line at the front of a buffer. Answers 0 and puts the line's length into `len`, or answers the number of the
@@ -66,11 +60,5 @@ pub extern "C" fn balgwir_write_mail_line(
     ensures buffer { out.new ≡ buffer_after path.now (yes require_tls) out.old }
     ensures length { len.new ≡ out_after (writing path.now (yes require_tls) (length out.old)) len.old }
 {
-    match write_mail_line(path, is_set(require_tls), out) {
-        Ok(n) => {
-            *len = n;
-            0
-        }
-        Err(refusal) => refusal_int(refusal),
-    }
+    answer(write_mail_line(path, is_set(require_tls), out), len)
 }

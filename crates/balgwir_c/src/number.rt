@@ -11,7 +11,7 @@ pub(crate) fn is_set(flag: i32) -> bool
     flag != 0
 }
 
-// A refusal's number as C has it.
+// A refusal's number as C has it. A function, as the one below: neither `i32` nor the refusal nor the tag is of this crate, so no `From` can stand here.
 pub(crate) fn refusal_int(refusal: Refusal) -> i32
     ensures { result ≡ refusal_int refusal }
 {

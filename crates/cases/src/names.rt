@@ -19,27 +19,21 @@ const HOST_NAMES: [(&'static [u8], bool); 12] = [
 
 #[test]
 fn host_names(rt: HostRuntime) {
-    for row in &HOST_NAMES {
-        assert_eq!(rt; is_host_name(row.0), row.1);
+    for (name, good) in &HOST_NAMES {
+        assert_eq!(rt; is_host_name(*name), *good);
     }
 }
 
-// `n` bytes of letters with a dot behind each 63.
+// `n` bytes of letters with a dot behind each `label` of them. By index: the place of a byte says which it is.
 fn long_name(
     heap: std::alloc::Global,
     n: usize,
     label: usize,
 ) -> Result<Vec<u8>, std::alloc::AllocError> {
     let mut name = Vec::new(heap);
-    let mut run: usize = 0;
-    for _ in 0..n {
-        if run == label {
-            name.push(b'.')?;
-            run = 0;
-        } else {
-            name.push(b'x')?;
-            run = run.saturating_add(1);
-        }
+    for i in 0..n {
+        let is_dot = i % label.saturating_add(1) == label;
+        name.push(if is_dot { b'.' } else { b'x' })?;
     }
     Ok(name)
 }
@@ -79,9 +73,9 @@ const PATTERNS: [(&'static [u8], &'static [u8], bool); 14] = [
 
 #[test]
 fn patterns_cover_one_label(rt: HostRuntime) {
-    for row in &PATTERNS {
-        assert_eq!(rt; covers(row.0, row.1), row.2);
-        assert_eq!(rt; names_cover(row.0, row.1), row.2);
+    for (pattern, name, covered) in &PATTERNS {
+        assert_eq!(rt; covers(*pattern, *name), *covered);
+        assert_eq!(rt; names_cover(*pattern, *name), *covered);
     }
 }
 
@@ -100,8 +94,8 @@ const NAMES_TEXTS: [(&'static [u8], &'static [u8], bool); 9] = [
 
 #[test]
 fn names_texts_are_parted_by_single_blanks(rt: HostRuntime) {
-    for row in &NAMES_TEXTS {
-        assert_eq!(rt; names_cover(row.0, row.1), row.2);
+    for (text, host, covered) in &NAMES_TEXTS {
+        assert_eq!(rt; names_cover(*text, *host), *covered);
     }
 }
 
@@ -123,8 +117,8 @@ const ADDRESSES: [(&'static [u8], bool); 13] = [
 
 #[test]
 fn addresses(rt: HostRuntime) {
-    for row in &ADDRESSES {
-        assert_eq!(rt; is_address(row.0), row.1);
+    for (address, good) in &ADDRESSES {
+        assert_eq!(rt; is_address(*address), *good);
     }
 }
 

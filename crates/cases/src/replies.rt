@@ -111,9 +111,7 @@ fn broken_replies_are_malformed(rt: HostRuntime) {
 fn line_of(heap: std::alloc::Global, n: usize) -> Result<Vec<u8>, std::alloc::AllocError> {
     let mut reply = Vec::new(heap);
     reply.extend_from_slice(b"220 ")?;
-    for _ in 6..n {
-        reply.push(b'x')?;
-    }
+    reply.resize(n.saturating_sub(2), b'x')?;
     reply.extend_from_slice(b"\r\n")?;
     Ok(reply)
 }
@@ -132,20 +130,17 @@ fn a_line_has_at_most_512_bytes(rt: HostRuntime) -> Result<(), Fail> {
 fn lines_come_with_their_places(rt: HostRuntime) -> Result<(), Fail> {
     let bytes: &[u8] = b"250-mx1.example\r\n250-SIZE 1000\r\n250-X_Y\r\n250 REQUIRETLS\r\n";
     let reply = Reply::read(bytes).ok_or("malformed")?;
-    let mut kinds: [u8; 4] = [0; 4];
-    let mut places: [usize; 4] = [0; 4];
-    for (i, line) in reply.lines().enumerate() {
-        let (kind, place) = match line {
+    let handed: Vec<(u8, usize)> = reply
+        .lines()
+        .map(|line| match line {
             ReplyLine::Greeting { place, .. } => (b'g', place),
             ReplyLine::Keyword { place, alone, .. } => (if alone { b'K' } else { b'k' }, place),
             ReplyLine::Other { place, .. } => (b'o', place),
-        };
-        if i < 4 {
-            kinds[i] = kind;
-            places[i] = place;
-        }
-    }
-    assert_eq!(rt; kinds, *b"gkoK");
-    assert_eq!(rt; places, [4, 21, 36, 45]);
+        })
+        .collect(rt.alloc())?;
+    assert_eq!(rt;
+        handed.as_slice(),
+        [(b'g', 4), (b'k', 21), (b'o', 36), (b'K', 45)].as_slice()
+    );
     Ok(())
 }

@@ -1,4 +1,3 @@
-use crate::talk::wrote;
 use line::{HouseHost, HouseLine, Line, Standing};
 use smtp::Refusal;
 use std::test::Fail;
@@ -11,11 +10,11 @@ fn room_exactly_enough(rt: HostRuntime) -> Result<(), Fail> {
     assert_eq!(rt; line.room(), 42);
     assert!(rt; line.open(b"mx.example").is_ok());
     assert_eq!(rt; line.room(), 18);
-    assert!(rt; matches!(line.put(b"QUIT \r\n"), Err(Refusal::NoRoom)));
+    assert_eq!(rt; line.put(b"QUIT \r\n"), Err(Refusal::NoRoom));
     assert_eq!(rt; line.pieces(), 0);
     assert!(rt; line.put(b"QUIT\r\n").is_ok());
     assert_eq!(rt; line.room(), 0);
-    assert!(rt; wrote(&line, b"    1O   12 mx.example\r\n    1C    6 QUIT\r\n"));
+    assert!(rt; line.transcript() == b"    1O   12 mx.example\r\n    1C    6 QUIT\r\n".as_slice());
     Ok(())
 }
 
@@ -25,8 +24,8 @@ fn room_one_short(rt: HostRuntime) -> Result<(), Fail> {
     let mut out = [7u8; 23];
     let host = HouseHost::new(b"mx.example", true, true, 1, 250)?;
     let mut line = HouseLine::new(host, &mut out);
-    assert!(rt; matches!(line.open(b"mx.example"), Err(Refusal::NoRoom)));
-    assert!(rt; matches!(line.standing(), Standing::Closed));
+    assert_eq!(rt; line.open(b"mx.example"), Err(Refusal::NoRoom));
+    assert_eq!(rt; line.standing(), Standing::Closed);
     assert_eq!(rt; line.visit(), 0);
     assert_eq!(rt; line.room(), 23);
     Ok(())
@@ -39,7 +38,7 @@ fn a_piece_of_43693(rt: HostRuntime) -> Result<(), Fail> {
     let host = HouseHost::new(b"a", true, true, 1, 250)?;
     let mut line = HouseLine::new(host, &mut out);
     assert!(rt; line.open(b"a").is_ok());
-    assert!(rt; matches!(line.put(&piece), Err(Refusal::NoRoom)));
+    assert_eq!(rt; line.put(&piece), Err(Refusal::NoRoom));
     assert_eq!(rt; line.room(), 49985);
     assert!(rt; line.put(&piece[0..43693]).is_ok());
     assert_eq!(rt; line.room(), 6280);
@@ -54,10 +53,10 @@ fn nothing_is_due(rt: HostRuntime) -> Result<(), Fail> {
     let host = HouseHost::new(b"a", true, true, 1, 250)?;
     let mut line = HouseLine::new(host, &mut out);
     assert!(rt; line.open(b"a").is_ok());
-    assert!(rt; matches!(line.take(&mut reply), Ok(Some(7))));
-    assert!(rt; matches!(line.take(&mut reply), Ok(None)));
+    assert_eq!(rt; line.take(&mut reply), Ok(Some(7)));
+    assert_eq!(rt; line.take(&mut reply), Ok(None));
     assert!(rt; &reply[0..8] == b"220 a\r\n\t".as_slice());
-    assert!(rt; matches!(line.standing(), Standing::Closed));
+    assert_eq!(rt; line.standing(), Standing::Closed);
     Ok(())
 }
 
@@ -74,7 +73,7 @@ fn the_longest_name(rt: HostRuntime) -> Result<(), Fail> {
     let mut line = HouseLine::new(host, &mut out);
     assert!(rt; line.open(&name).is_ok());
     assert!(rt; line.put(b"EHLO a\r\n").is_ok());
-    assert!(rt; matches!(line.take(&mut reply), Ok(Some(283))));
+    assert_eq!(rt; line.take(&mut reply), Ok(Some(283)));
     assert!(rt; &reply[257..283] == b"\r\n250-STARTTLS\r\n250 HELP\r\n".as_slice());
     Ok(())
 }

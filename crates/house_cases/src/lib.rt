@@ -1,4 +1,5 @@
 // The house host by hand: visits, each refusal, and the borders of room and buffers.
+// Tests use the line's own calls, since what a call answers is what they are about.
 
 #![tactic(auto)]
 
@@ -8,7 +9,5 @@ mod answers;
 mod borders;
 #[cfg(test)]
 mod refusals;
-#[cfg(test)]
-mod talk;
 #[cfg(test)]
 mod visits;

@@ -1,6 +1,7 @@
 pub mod Columns
-pub mod HouseKept
+pub mod Handing
 pub mod HouseLaying
+pub mod HousePeer
 pub mod HouseRule
 pub mod Laid
 pub mod Laws

@@ -1,26 +1,34 @@
 -- What holds of a line that keeps its transcript in lent bytes, before and after each call.
-use Rattle.std.proofs.Common.{◌≡◌, ℕ, suc, ◌+◌, ◌-◌, ◌*◌, ◌≤◌, min, Bool, true, false, cond, not, eqb, leb, List, [], ◌∷◌, ◌++◌, map, length, take, drop, None, Option, sym, refl, ap, ◌∙◌, subst, arith}
+use Rattle.std.proofs.Common.{◌≡◌, ℕ, suc, ◌+◌, ◌-◌, ◌*◌, ◌≤◌, min, Bool, true, false, cond, not, eqb, leb, List, [], ◌∷◌, ◌++◌, map, length, take, drop, is_some, Some, None, Ok, Option, sym, refl, ap, ◌∙◌, subst, arith}
 use Rattle.std.proofs.lemmas.Bool.Decides.{nat_tests}
-use Rattle.std.proofs.lemmas.Bool.{not-true, not-false, and_parts, and_from, eqb-true, eq-eqb, leb-true, le-leb}
+use Rattle.std.specs.Option.{option_map}
+use Rattle.std.proofs.lemmas.Bool.{true≢false, not-true, and_parts, and_from, eqb-true, eq-eqb, leb-true, le-leb}
 use Rattle.std.proofs.lemmas.List.{take-append-le, drop-append-le, length-drop, length-take-le, length-append, map-append, drop_all, drop-drop, drop_at, take_at}
 use Rattle.line.specs.declared.record.Letter.{Letter}
 use Rattle.line.specs.declared.record.Letter.TheVariants as letter
 use Rattle.line.specs.declared.line.Standing.{Standing}
 use Rattle.line.specs.declared.line.Standing.TheVariants.{Closed, Clear, Covered}
 use Rattle.line.specs.declared.state.State.{State}
-use Rattle.smtp.specs.Names.{host_name}
-use Rattle.smtp.specs.declared.refusal.Refusal.TheVariants.{NoRoom}
-use Rattle.line.specs.Model.{Bytes, Record, Piece, Rule, closed, opened, Meaning, fresh, stance, idle_at}
-use Rattle.line.specs.Calls.{Step, does, refuse, tight, noted, letter_of, piece, crlf, opening, putting, taking, hearing, laid, short, fitting, reply_buffer}
+use Rattle.smtp.specs.Names.{host_name, dotted, label_byte}
+use Rattle.smtp.specs.declared.refusal.Refusal.TheVariants.{WrongStanding}
+use Rattle.line.specs.Model.{Bytes, Record, Piece, Rule, closed, opened, Meaning, fresh, idle_at}
+use Rattle.line.specs.declared.record.Trust.{Trust}
+use Rattle.line.specs.declared.visit.Visit.{Visit}
+use Rattle.line.specs.Buffers.{laid_at}
+use Rattle.line.specs.Calls.{Step, does, refuse, tight, noted, letter_of, piece, crlf, opening, putting, taking, laid, short, fitting, reply_buffer, covering, names_of, names_buffer}
+use Rattle.line.specs.Pieces.{piece_of}
+use Rattle.line.specs.Peers.{reply_to, handshake_to, sized}
 use Rattle.line.specs.Layout.{head_of, written, records, whole, Fits}
 use Rattle.line.specs.Sheet.{clear_count, covered_count}
-use Rattle.line.specs.Transcripts.{is_closed, is_covered, piece_letter, piece_of, name_in, pieces_in, standing_of, sense, calm, sound, fresh_state, opened_state, put_state, quiet_state}
+use Rattle.line.specs.Transcripts.{is_closed, is_clear, is_covered, piece_letter, name_in, pieces_in, standing_of, sense, calm, sound, fresh_state, opened_state, put_state, quiet_state, standing_if, if_fits, waiting_in, shaken_in}
 use Rattle.line.proofs.Laws.{records_more, whole_more, whole_nil, records_nil}
+use Rattle.line.proofs.Laid.{laid_down, without_ending, fitting_laid, names_laid}
 
 -- the facts, one by one
 pub record Facts (text : Bytes) (st : State) : Type 0 where
   pub begun : st.start ≤ st.used
   pub named : st.at + st.long ≤ st.start
+  pub brief : st.long ≤ 253
   pub visits : 14 * st.visit ≤ st.used
   pub amount : 12 * (st.clear + st.covered) ≤ st.used
   pub whole_text : whole text ≡ true
@@ -34,7 +42,8 @@ unfolding sound
 facts text st h =
     let a = and_parts (leb st.start st.used) _ h in
     let b = and_parts (leb (st.at + st.long) st.start) _ a.1 in
-    let c = and_parts (leb (14 * st.visit) st.used) _ b.1 in
+    let z = and_parts (leb st.long 253) _ b.1 in
+    let c = and_parts (leb (14 * st.visit) st.used) _ z.1 in
     let d = and_parts (leb (12 * (st.clear + st.covered)) st.used) _ c.1 in
     let e = and_parts (whole text) _ d.1 in
     let f = and_parts (whole (drop st.start text)) _ e.1 in
@@ -43,6 +52,7 @@ facts text st h =
     record {
       begun = leb-true st.start st.used a.0;
       named = leb-true (st.at + st.long) st.start b.0;
+      brief = leb-true st.long 253 z.0;
       visits = leb-true (14 * st.visit) st.used c.0;
       amount = leb-true (12 * (st.clear + st.covered)) st.used d.0;
       whole_text = e.0;
@@ -57,18 +67,20 @@ unfolding sound
 sound_from text st f =
     and_from _ _ (le-leb st.start st.used f.begun)
     (and_from _ _ (le-leb (st.at + st.long) st.start f.named)
+    (and_from _ _ (le-leb st.long 253 f.brief)
     (and_from _ _ (le-leb (14 * st.visit) st.used f.visits)
     (and_from _ _ (le-leb (12 * (st.clear + st.covered)) st.used f.amount)
     (and_from _ _ f.whole_text
     (and_from _ _ f.whole_visit
     (and_from _ _ (eq-eqb st.clear (clear_count (pieces_in text st)) f.clears)
-    (and_from _ _ (eq-eqb st.covered (covered_count (pieces_in text st)) f.covereds) f.calmed)))))))
+    (and_from _ _ (eq-eqb st.covered (covered_count (pieces_in text st)) f.covereds) f.calmed))))))))
 
 -- nothing is written
 pub sound_fresh : sound [] fresh_state ≡ true
 sound_fresh = sound_from [] fresh_state (record {
   begun = omega arith;
   named = omega arith;
+  brief = omega arith;
   visits = omega arith;
   amount = omega arith;
   whole_text = whole_nil;
@@ -91,6 +103,7 @@ sound_quiet text st s h =
     sound_from text (quiet_state st s) (record {
       begun = f.begun;
       named = f.named;
+      brief = f.brief;
       visits = f.visits;
       amount = f.amount;
       whole_text = f.whole_text;
@@ -194,6 +207,7 @@ sound_put text st bytes s u fits o =
     sound_from (text ++ written r) (put_state st (length bytes)) (record {
       begun = omega (arith, f.begun);
       named = f.named;
+      brief = f.brief;
       visits = omega (arith, f.visits);
       amount = put_counts c st.clear st.covered st.used (length bytes) f.amount;
       whole_text = whole_more text r f.whole_text fits;
@@ -250,15 +264,20 @@ name_there text st name u =
     let e : drop (st.used + 12) (text ++ more) ≡ name ++ crlf = sym dd ∙ ap (λ (z : Bytes). drop 12 z) da in
     ap (λ (z : Bytes). take (length name) z) e ∙ take_at name crlf (length name) refl
 
-pub sound_open : (text : Bytes) (st : State) (name : Bytes) → sound text st ≡ true → st.used ≡ length text → Fits (open_record st name)
+-- a host name has at most 253 bytes
+host_short : (name : Bytes) → host_name name ≡ true → length name ≤ 253
+host_short name e = leb-true (length name) 253 (and_parts (leb (length name) 253) (dotted label_byte 63 name) e).0
+
+pub sound_open : (text : Bytes) (st : State) (name : Bytes) → sound text st ≡ true → st.used ≡ length text → Fits (open_record st name) → host_name name ≡ true
     → sound (text ++ written (open_record st name)) (opened_state st (length name)) ≡ true
-sound_open text st name s u fits =
+sound_open text st name s u fits h =
     let f = facts text st s in
     let r = open_record st name in
     let none = past_all text st name u in
     sound_from (text ++ written r) (opened_state st (length name)) (record {
       begun = omega arith;
       named = omega arith;
+      brief = host_short name h;
       visits = omega (arith, f.visits);
       amount = omega arith;
       whole_text = whole_more text r f.whole_text fits;
@@ -297,6 +316,22 @@ sense_open rule text total st name s u fits h o t =
 pub roomy : (room n : ℕ) → true ≡ not (tight room n) → (tight room n ≡ false) × (n ≤ 43693) × (n + 12 ≤ room)
 roomy room n e = let t = not-true (tight room n) (sym e) in (t, grind (arith, nat_tests), grind (arith, nat_tests))
 
+-- the state that is given is the state after, and there is room
+pub record Room (total : ℕ) (st : State) (n : ℕ) (after next : State) : Type 0 where
+  pub loose : tight (min 1000000 total - st.used) n ≡ false
+  pub small : n ≤ 43693
+  pub ends : st.used + (12 + n) ≤ min 1000000 total
+  pub is : next ≡ after
+
+pub room_for : (total : ℕ) (st : State) (n : ℕ) (after next : State) → st.used ≤ 1000000 → st.used ≤ total → if_fits total st n after ≡ Some next → Room total st n after next
+room_for total st n after next few w e = go (tight (min 1000000 total - st.used) n) refl e
+  where
+    go : (t : Bool) → tight (min 1000000 total - st.used) n ≡ t → cond t None (Some after) ≡ Some next → Room total st n after next
+    go true t e = let z : ◌≡◌ {A = ℕ} 0 1 = cc in absurd (omega arith)
+    go false t e =
+        let r = roomy (min 1000000 total - st.used) n (sym (ap not t)) in
+        record { loose = t; small = r.1; ends = omega (arith, r.2); is = cc }
+
 -- a call that wrote a record: what holds of the bytes and the state then, and what the line means
 pub record Done (step : Step (Unit {0})) (rule : Rule) (out : Bytes) (st : State) : Type 0 where
   pub within : st.used ≤ length out
@@ -305,76 +340,152 @@ pub record Done (step : Step (Unit {0})) (rule : Rule) (out : Bytes) (st : State
   pub is : step ≡ does (sense rule (take st.used out) (length out) st) tt
 
 pub put_done : (rule rule' : Rule) (out out' : Bytes) (st st' : State) (l : Letter) (bytes : Bytes) → st.used ≤ length out → st.used ≤ 1000000 → sound (take st.used out) st ≡ true
-    → is_closed st.standing ≡ false → true ≡ not (tight (min 1000000 (length out) - st.used) (length bytes)) → l ≡ piece_letter st.standing
-    → take (st.used + (12 + length bytes)) out' ≡ take st.used out ++ (head_of st.visit l (length bytes) ++ bytes) → length out' ≡ length out → st' ≡ put_state st (length bytes) → rule' ≡ rule
+    → is_closed st.standing ≡ false → if_fits (length out) st (length bytes) (put_state st (length bytes)) ≡ Some st' → l ≡ piece_letter st.standing
+    → out' ≡ laid_at st.used (head_of st.visit l (length bytes + 0) ++ (bytes ++ [])) out → rule' ≡ rule
     → Done (putting (sense rule (take st.used out) (length out) st) bytes) rule' out' st'
-put_done rule rule' out out' st st' l bytes w few s o fit le t n e er =
+put_done rule rule' out out' st st' l bytes w few s o fit le t er =
     let f = facts (take st.used out) st s in
     let u : st.used ≡ length (take st.used out) = sym (length-take-le st.used out w) in
-    let r = roomy (min 1000000 (length out) - st.used) (length bytes) fit in
-    let fits : Fits (piece_record st bytes) = (omega (arith, f.visits), omega (arith, r.1)) in
-    let text : take (st.used + (12 + length bytes)) out' ≡ take st.used out ++ written (piece_record st bytes) =
-    t ∙ ap (λ (z : Letter). take st.used out ++ (head_of st.visit z (length bytes) ++ bytes)) le in
+    let r = room_for (length out) st (length bytes) (put_state st (length bytes)) st' few w fit in
+    let fits : Fits (piece_record st bytes) = (omega (arith, f.visits), omega (arith, r.small)) in
+    let same : head_of st.visit l (length bytes + 0) ++ (bytes ++ []) ≡ written (piece_record st bytes) =
+    without_ending st.visit l bytes ∙ ap (λ (z : Letter). head_of st.visit z (length bytes) ++ bytes) le in
+    let d = laid_down st.used (12 + length bytes) (written (piece_record st bytes)) out out' (t ∙ ap (λ (z : Bytes). laid_at st.used z out) same) (omega arith) (omega (arith, r.ends)) in
     let k = sound_put (take st.used out) st bytes s u fits o in
-    let q = sense_put rule (take st.used out) (length out) st bytes s u fits o r.0 in
-    let st-is : put_state st (length bytes) ≡ st' = sym e in
-    subst (λ (z : State). Done (putting (sense rule (take st.used out) (length out) st) bytes) rule' out' z) st-is (record {
-      within = omega (arith, r.2);
-      few = omega (arith, r.2);
+    let q = sense_put rule (take st.used out) (length out) st bytes s u fits o r.loose in
+    let text = d.text in
+    let n = d.len in
+    subst (λ (z : State). Done (putting (sense rule (take st.used out) (length out) st) bytes) rule' out' z) (sym r.is) (record {
+      within = omega (arith, r.ends);
+      few = omega (arith, r.ends);
       keeps = ap (λ (z : Bytes). sound z (put_state st (length bytes))) text ∙ k;
       is = q ∙ ap (λ (m : Meaning). does m tt) (rw (er, n, text) refl);
     })
 
 pub open_done : (rule rule' : Rule) (out out' : Bytes) (st st' : State) (host : Bytes) → st.used ≤ length out → st.used ≤ 1000000 → sound (take st.used out) st ≡ true
-    → host_name host ≡ true → is_closed st.standing ≡ true → true ≡ not (tight (min 1000000 (length out) - st.used) (length host + 2))
-    → take (st.used + (12 + (length host + 2))) out' ≡ take st.used out ++ (head_of (st.visit + 1) letter.Opened (length host + 2) ++ (host ++ crlf)) → length out' ≡ length out
-    → st' ≡ opened_state st (length host) → rule' ≡ rule
+    → host_name host ≡ true → is_closed st.standing ≡ true → if_fits (length out) st (length host + 2) (opened_state st (length host)) ≡ Some st'
+    → out' ≡ laid_at st.used (head_of st'.visit letter.Opened (length host + 2) ++ (host ++ crlf)) out → rule' ≡ rule
     → Done (opening (sense rule (take st.used out) (length out) st) host) rule' out' st'
-open_done rule rule' out out' st st' host w few s h o fit t n e er =
+open_done rule rule' out out' st st' host w few s h o fit t er =
     let f = facts (take st.used out) st s in
     let u : st.used ≡ length (take st.used out) = sym (length-take-le st.used out w) in
-    let r = roomy (min 1000000 (length out) - st.used) (length host + 2) fit in
+    let r = room_for (length out) st (length host + 2) (opened_state st (length host)) st' few w fit in
     let ln : length host + 2 ≡ length (host ++ crlf) = sym (length-append host crlf) in
-    let fits : Fits (open_record st host) = (omega (arith, f.visits), omega (arith, r.1)) in
-    let text : take (st.used + (12 + (length host + 2))) out' ≡ take st.used out ++ written (open_record st host) =
-    t ∙ ap (λ (z : ℕ). take st.used out ++ (head_of (st.visit + 1) letter.Opened z ++ (host ++ crlf))) ln in
-    let k = sound_open (take st.used out) st host s u fits in
-    let q = sense_open rule (take st.used out) (length out) st host s u fits h o r.0 in
-    subst (λ (z : State). Done (opening (sense rule (take st.used out) (length out) st) host) rule' out' z) (sym e) (record {
-      within = omega (arith, r.2);
-      few = omega (arith, r.2);
+    let fits : Fits (open_record st host) = (omega (arith, f.visits), omega (arith, r.small)) in
+    let v : st'.visit ≡ st.visit + 1 = ap (λ (z : State). z.visit) r.is in
+    let same : head_of st'.visit letter.Opened (length host + 2) ++ (host ++ crlf) ≡ written (open_record st host) =
+    ap (λ (z : ℕ). head_of z letter.Opened (length host + 2) ++ (host ++ crlf)) v ∙ ap (λ (z : ℕ). head_of (st.visit + 1) letter.Opened z ++ (host ++ crlf)) ln in
+    let d = laid_down st.used (12 + (length host + 2)) (written (open_record st host)) out out' (t ∙ ap (λ (z : Bytes). laid_at st.used z out) same) (omega arith) (omega (arith, r.ends)) in
+    let k = sound_open (take st.used out) st host s u fits h in
+    let q = sense_open rule (take st.used out) (length out) st host s u fits h o r.loose in
+    let text = d.text in
+    let n = d.len in
+    subst (λ (z : State). Done (opening (sense rule (take st.used out) (length out) st) host) rule' out' z) (sym r.is) (record {
+      within = omega (arith, r.ends);
+      few = omega (arith, r.ends);
       keeps = ap (λ (z : Bytes). sound z (opened_state st (length host))) text ∙ k;
       is = q ∙ ap (λ (m : Meaning). does m tt) (rw (er, n, text) refl);
     })
 
--- a name for which there is no room
-pub open_tight : (rule : Rule) (text : Bytes) (total : ℕ) (st : State) (host : Bytes) → host_name host ≡ true → is_closed st.standing ≡ true
-    → false ≡ not (tight (min 1000000 total - st.used) (length host + 2)) → opening (sense rule text total st) host ≡ refuse (sense rule text total st) NoRoom
-open_tight rule text total st host h o t =
+-- an answer that came or was lost: none is due then
+some_sized : {A B : Type 0} (f : A → B) (o : Option A) → is_some (option_map f o) ≡ is_some o
+some_sized f None = refl
+some_sized f (Some x) = refl
+
+pub answered_as : {A B : Type 0} (f : A → B) (st st' : State) (standing : Standing) (came : Bool) (r : Option B) (o : Option A)
+    → st' ≡ quiet_state st (standing_if came standing) → came ≡ is_some r → r ≡ option_map f o → st' ≡ quiet_state st (standing_if (is_some o) standing)
+answered_as f st st' standing came r o e c h = e ∙ ap (λ (b : Bool). quiet_state st (standing_if b standing)) (c ∙ ap is_some h ∙ some_sized f o)
+
+pub record Stays (out : Bytes) (st : State) : Type 0 where
+  pub within : st.used ≤ length out
+  pub few : st.used ≤ 1000000
+  pub keeps : sound (take st.used out) st ≡ true
+
+pub sound_as : (out : Bytes) (st st' : State) (s : Standing) → st' ≡ quiet_state st s → st.used ≤ length out → st.used ≤ 1000000 → sound (take st.used out) st ≡ true → Stays out st'
+sound_as out st st' s e w f h =
+    let u = ap (λ (t : State). t.used) e in
+    record { within = omega arith; few = omega arith; keeps = ap (λ (t : State). sound (take t.used out) t) e ∙ sound_quiet (take st.used out) st s h }
+
+-- the other side is asked of the visit as it stands
+pub asked_handshake : (rule : Rule) (text : Bytes) (st : State) (v : Visit) → v.number ≡ st.visit → v.name.now ≡ name_in text st → v.pieces.now ≡ drop st.start text
+    → handshake_to rule v ≡ shaken_in rule text st
+asked_handshake rule text st v a b c = rw (a, b, c)
+
+pub asked_reply : (rule : Rule) (text : Bytes) (st : State) (v : Visit) → v.number ≡ st.visit → v.name.now ≡ name_in text st → v.pieces.now ≡ drop st.start text → st.due ≡ true
+    → reply_to rule v ≡ waiting_in rule text st
+asked_reply rule text st v a b c d = rw (a, b, c, d)
+
+-- what a take makes of the reply that waits
+pub record Took (step : Step (Option ℕ)) (held : Bytes) (rule : Rule) (text : Bytes) (total : ℕ) (st : State) (old : Bytes) : Type 0 where
+  pub answer : step.answer ≡ Ok (option_map length (waiting_in rule text st))
+  pub after : step.after ≡ sense rule text total (quiet_state st (standing_if (is_some (waiting_in rule text st)) st.standing))
+  pub holds : held ≡ laid (waiting_in rule text st) old
+
+took_by : (rule : Rule) (text : Bytes) (total : ℕ) (st : State) (old : Bytes) (s : Standing) → s ≡ st.standing → short (length old) ≡ false → is_closed s ≡ false → (o : Option Bytes) → waiting_in rule text st ≡ o
+    → Took (taking (sense rule text total st) (length old)) (reply_buffer (sense rule text total st) old) rule text total st old
+took_by rule text total st old Closed se e s o w = absurd (true≢false s)
+took_by rule text total st old Clear se e s None w = record { answer = rw (e, ← se, w); after = rw (e, ← se, w); holds = rw (e, ← se, w) }
+took_by rule text total st old Clear se e s (Some t) w = record { answer = rw (e, ← se, w); after = rw (e, ← se, w); holds = rw (e, ← se, w) }
+took_by rule text total st old Covered se e s None w = record { answer = rw (e, ← se, w); after = rw (e, ← se, w); holds = rw (e, ← se, w) }
+took_by rule text total st old Covered se e s (Some t) w = record { answer = rw (e, ← se, w); after = rw (e, ← se, w); holds = rw (e, ← se, w) }
+
+pub take_done : (rule : Rule) (text : Bytes) (total : ℕ) (st : State) (old : Bytes) → short (length old) ≡ false → is_closed st.standing ≡ false
+    → Took (taking (sense rule text total st) (length old)) (reply_buffer (sense rule text total st) old) rule text total st old
+take_done rule text total st old e s = took_by rule text total st old st.standing refl e s (waiting_in rule text st) refl
+
+-- what a cover makes of the answer to a handshake
+pub record Shook (step : Step (Option (Trust × ℕ))) (held : Bytes) (rule : Rule) (text : Bytes) (total : ℕ) (st : State) (old : Bytes) : Type 0 where
+  pub answer : step.answer ≡ Ok (option_map sized (shaken_in rule text st))
+  pub after : step.after ≡ sense rule text total (quiet_state st (standing_if (is_some (shaken_in rule text st)) Covered))
+  pub holds : held ≡ laid (names_of (shaken_in rule text st)) old
+
+shook_by : (rule : Rule) (text : Bytes) (total : ℕ) (st : State) (old : Bytes) (s : Standing) → s ≡ st.standing → short (length old) ≡ false → is_clear s ≡ true → (o : Option (Trust × Bytes)) → shaken_in rule text st ≡ o
+    → Shook (covering (sense rule text total st) (length old)) (names_buffer (sense rule text total st) old) rule text total st old
+shook_by rule text total st old Closed se e s o w = absurd (true≢false (sym s))
+shook_by rule text total st old Clear se e s None w = record { answer = rw (e, ← se, w); after = rw (e, ← se, w); holds = rw (e, ← se, w) }
+shook_by rule text total st old Clear se e s (Some h) w = record { answer = rw (e, ← se, w); after = rw (e, ← se, w); holds = rw (e, ← se, w) }
+shook_by rule text total st old Covered se e s o w = absurd (true≢false (sym s))
+
+pub cover_done : (rule : Rule) (text : Bytes) (total : ℕ) (st : State) (old : Bytes) → short (length old) ≡ false → is_clear st.standing ≡ true
+    → Shook (covering (sense rule text total st) (length old)) (names_buffer (sense rule text total st) old) rule text total st old
+cover_done rule text total st old e s = shook_by rule text total st old st.standing refl e s (shaken_in rule text st) refl
+
+-- what is laid into a buffer's first 4,096 bytes lies in the buffer
+pub waiting_laid : (rule : Rule) (text : Bytes) (st : State) (old front : Bytes) → front ≡ take 4096 old
+    → laid (waiting_in rule text st) front ++ drop 4096 old ≡ laid (waiting_in rule text st) old
+waiting_laid rule text st old front e = go st.due
+  where
+    go : (d : Bool) → laid (cond d (fitting (rule.reply st.visit (name_in text st) (pieces_in text st))) None) front ++ drop 4096 old
+        ≡ laid (cond d (fitting (rule.reply st.visit (name_in text st) (pieces_in text st))) None) old
+    go true = fitting_laid (rule.reply st.visit (name_in text st) (pieces_in text st)) old front e
+    go false = fitting_laid None old front e
+
+pub shaken_laid : (rule : Rule) (text : Bytes) (st : State) (old front : Bytes) → front ≡ take 4096 old
+    → laid (names_of (shaken_in rule text st)) front ++ drop 4096 old ≡ laid (names_of (shaken_in rule text st)) old
+shaken_laid rule text st old front e = names_laid (rule.handshake st.visit (name_in text st) (pieces_in text st)) old front e
+
+-- a call that is refused as the line stands
+pub record Refused {R : Type 0} (step : Step R) (m : Meaning) (held old : Bytes) : Type 0 where
+  pub is : step ≡ refuse m WrongStanding
+  pub holds : held ≡ old
+
+pub take_closed : (rule : Rule) (text : Bytes) (total : ℕ) (st : State) (old : Bytes) → short (length old) ≡ false → is_closed st.standing ≡ true
+    → Refused (taking (sense rule text total st) (length old)) (sense rule text total st) (reply_buffer (sense rule text total st) old) old
+take_closed rule text total st old e o =
     let s = closed_as st.standing (name_in text st) (pieces_in text st) o in
-    let b : tight (min 1000000 total - st.used) (length (host ++ crlf)) ≡ true = ap (tight (min 1000000 total - st.used)) (length-append host crlf) ∙ not-false (tight (min 1000000 total - st.used) (length host + 2)) (sym t) in
-    rw (h, s, b)
+    record { is = rw (e, s); holds = rw (e, s) }
 
--- the reply that waits, and what a take makes of it
-pub record Taken (m : Meaning) (old : Bytes) (o : Option Bytes) : Type 0 where
-  pub is : taking m (length old) ≡ hearing m o
-  pub holds : reply_buffer m old ≡ laid o old
+cover_by : (rule : Rule) (text : Bytes) (total : ℕ) (st : State) (old : Bytes) (s : Standing) → s ≡ st.standing → short (length old) ≡ false → is_clear s ≡ false
+    → Refused (covering (sense rule text total st) (length old)) (sense rule text total st) (names_buffer (sense rule text total st) old) old
+cover_by rule text total st old Closed se e s = record { is = rw (e, ← se); holds = rw (e, ← se) }
+cover_by rule text total st old Clear se e s = absurd (true≢false s)
+cover_by rule text total st old Covered se e s = record { is = rw (e, ← se); holds = rw (e, ← se) }
 
-taken_by : (m : Meaning) (old : Bytes) (c : Bool) (name : Bytes) (ps : List Piece) (o : Option Bytes) → short (length old) ≡ false → m.standing ≡ opened c name ps
-    → cond m.due (fitting (m.rule.reply m.visit name ps)) None ≡ o → Taken m old o
-taken_by m old c name ps o e s w = record { is = rw (e, s, w); holds = rw (e, s, w) }
+pub cover_not_clear : (rule : Rule) (text : Bytes) (total : ℕ) (st : State) (old : Bytes) → short (length old) ≡ false → is_clear st.standing ≡ false
+    → Refused (covering (sense rule text total st) (length old)) (sense rule text total st) (names_buffer (sense rule text total st) old) old
+cover_not_clear rule text total st old e s = cover_by rule text total st old st.standing refl e s
 
-pub take_done : (rule : Rule) (text : Bytes) (total : ℕ) (st : State) (old : Bytes) (o : Option Bytes) → short (length old) ≡ false → is_closed st.standing ≡ false
-    → cond st.due (fitting (rule.reply st.visit (name_in text st) (pieces_in text st))) None ≡ o → Taken (sense rule text total st) old o
-take_done rule text total st old o e s w =
-    taken_by (sense rule text total st) old (is_covered st.standing) (name_in text st) (pieces_in text st) o e (opened_as st.standing (name_in text st) (pieces_in text st) s) w
-
--- how the line stands, as it is answered
-pub stance_is : (s : Standing) (name : Bytes) (ps : List Piece) → s ≡ stance (standing_of s name ps)
-stance_is Closed name ps = refl
-stance_is Clear name ps = refl
-stance_is Covered name ps = refl
-
+-- a closed line has no reply due, as it is answered
 pub idle_is : (s : Standing) (due : Bool) (name : Bytes) (ps : List Piece) → idle_at due (standing_of s name ps) ≡ calm s due
 idle_is Closed due name ps = refl
 idle_is Clear due name ps = refl

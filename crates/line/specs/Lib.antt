@@ -3,10 +3,11 @@ pub mod Calls
 pub mod Entries
 pub mod HouseHost
 pub mod HouseLaws
-pub mod HouseLines
 pub mod Layout
 pub mod Letters
 pub mod Model
+pub mod Peers
+pub mod Pieces
 pub mod Sheet
 pub mod SheetLaws
 pub mod Sheets

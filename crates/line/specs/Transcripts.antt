@@ -1,13 +1,16 @@
 -- A line that keeps its transcript in lent bytes: what it means, by the bytes written and where it stands in them.
-use Rattle.std.specs.Prelude.{ℕ, ◌+◌, ◌-◌, ◌*◌, min, Bool, true, false, cond, not, ◌&&◌, List, map, take, drop, ◌==◌, nat_le}
+use Rattle.std.specs.Prelude.{ℕ, ◌+◌, ◌-◌, ◌*◌, min, Bool, true, false, cond, not, ◌&&◌, List, take, drop, Some, None, Option, ◌==◌, nat_le}
 use Rattle.line.specs.declared.record.Letter.{Letter}
 use Rattle.line.specs.declared.record.Letter.TheVariants as letter
+use Rattle.line.specs.declared.record.Trust.{Trust}
 use Rattle.line.specs.declared.line.Standing.{Standing}
 use Rattle.line.specs.declared.line.Standing.TheVariants.{Closed, Clear, Covered}
 use Rattle.line.specs.declared.state.State.{State}
-use Rattle.line.specs.Model.{Bytes, Record, Piece, Rule, Connection, closed, opened, Meaning}
+use Rattle.line.specs.Model.{Bytes, Piece, Rule, Connection, closed, opened, Meaning}
+use Rattle.line.specs.Calls.{tight, fitting, fitting_names}
 use Rattle.line.specs.Layout.{records, whole}
 use Rattle.line.specs.Sheet.{clear_count, covered_count}
+use Rattle.line.specs.Pieces.{pieces_of}
 
 abbrev pub is_closed : Standing → Bool
 is_closed Closed = true
@@ -30,23 +33,12 @@ piece_letter Closed = letter.Clear
 piece_letter Clear = letter.Clear
 piece_letter Covered = letter.Covered
 
--- the pieces put, from their records
-abbrev pub was_covered : Letter → Bool
-was_covered letter.Opened = false
-was_covered letter.Clear = false
-was_covered letter.Covered = true
-was_covered letter.Reply = false
-was_covered letter.Handshake = false
-
-abbrev pub piece_of : Record → Piece
-piece_of r = record { covered = was_covered r.letter; bytes = r.bytes }
-
 -- the name and the pieces of the visit, in the bytes written
 abbrev pub name_in : Bytes → State → Bytes
 name_in text st = take st.long (drop st.at text)
 
 abbrev pub pieces_in : Bytes → State → List Piece
-pieces_in text st = map piece_of (records (drop st.start text))
+pieces_in text st = pieces_of (drop st.start text)
 
 abbrev pub standing_of : Standing → Bytes → List Piece → Connection
 standing_of Closed name ps = closed
@@ -75,13 +67,14 @@ unfoldable pub sound : Bytes → State → Bool
 sound text st =
     nat_le st.start st.used
     && (nat_le (st.at + st.long) st.start
+    && (nat_le st.long 253
     && (nat_le (14 * st.visit) st.used
     && (nat_le (12 * (st.clear + st.covered)) st.used
     && (whole text
     && (whole (drop st.start text)
     && (st.clear == clear_count (pieces_in text st)
     && (st.covered == covered_count (pieces_in text st)
-    && calm st.standing st.due)))))))
+    && calm st.standing st.due))))))))
 
 -- the state of a line that has written nothing
 abbrev pub fresh_state : State
@@ -127,3 +120,18 @@ quiet_state st standing = record {
   standing = standing;
   due = false;
 }
+
+-- standing so where an answer came, else closed
+abbrev pub standing_if : Bool → Standing → Standing
+standing_if came standing = cond came standing Closed
+
+-- the state once a record of n bytes is written, if there is room for it in lent bytes of such a size
+abbrev pub if_fits : ℕ → State → ℕ → State → Option State
+if_fits total st n after = cond (tight (min 1000000 total - st.used) n) None (Some after)
+
+-- the reply that waits, if it is due, and the answer to a handshake, each if it is not lost
+abbrev pub waiting_in : Rule → Bytes → State → Option Bytes
+waiting_in rule text st = cond st.due (fitting (rule.reply st.visit (name_in text st) (pieces_in text st))) None
+
+abbrev pub shaken_in : Rule → Bytes → State → Option (Trust × Bytes)
+shaken_in rule text st = fitting_names (rule.handshake st.visit (name_in text st) (pieces_in text st))

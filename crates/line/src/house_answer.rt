@@ -1,5 +1,5 @@
-ghost use Rattle.std.specs.Prelude.{◌≡◌, ◌&&◌};
-ghost use Rattle.line.specs.HouseHost.{host_of, first_word, command_of, answer_to, answer_next, awaits_handshake};
+ghost use Rattle.std.specs.Prelude.{◌≡◌};
+ghost use Rattle.line.specs.HouseHost.{host_of, first_word, command_of, answer_to, answer_next};
 ghost use Rattle.line.specs.Calls.{piece};
 ghost use Rattle.smtp.specs.Parts.{first_part};
 
@@ -46,7 +46,7 @@ impl Command {
     }
 }
 
-// What a house host answers to the last piece of a visit.
+// What a house host answers to the last piece of a visit. The host is a `Copy` value that each function below asks.
 #[derive(Clone, Copy)]
 pub(crate) enum Answer {
     // 220 and the name, where no piece was put yet
@@ -94,30 +94,5 @@ impl Answer {
             Answer::GoAhead => Answer::Done,
             _ => Answer::to(host, covered, Command::read(bytes)),
         }
-    }
-}
-
-// What a line to a house host keeps of a visit.
-#[derive(Clone, Copy)]
-pub(crate) struct Talk {
-    // while the line is open, whether it was opened by the host's name
-    pub(crate) known: bool,
-    // the answer to the last piece
-    pub(crate) answer: Answer,
-}
-
-impl Talk {
-    // Whether the reply that is due, if one is, is not lost.
-    pub(crate) fn has_reply(self, due: bool) -> bool
-        ensures { result ≡ (due && self.known) }
-    {
-        due && self.known
-    }
-
-    // Whether a handshake is answered: right after a STARTTLS that got 220.
-    pub(crate) fn may_shake(self) -> bool
-        ensures { result ≡ (self.known && awaits_handshake self.answer) }
-    {
-        self.known && matches!(self.answer, Answer::Ready)
     }
 }

@@ -1,57 +1,61 @@
 ghost use Rattle.std.specs.Prelude.{◌≡◌};
 ghost use Rattle.std.specs.Result.{result_map_both};
-ghost use Rattle.line.specs.HouseHost.{host_of, offers, house_host, trust_of, recipient_code, recipient_number, coded};
+ghost use Rattle.std.specs.Option.{ok_or};
+ghost use Rattle.smtp.specs.declared.refusal.Refusal.TheVariants.{BadHouseHost};
+ghost use Rattle.line.specs.HouseHost.{recipient_number, coded, recipient_code, host_of, offers, house_host};
 ghost use Rattle.line.specs.HouseLaws.{HouseHostHolds};
 
 use crate::record::Trust;
 use smtp::Refusal;
 use smtp::names::is_host_name;
 
-// What a recipient gets.
-#[derive(Clone, Copy)]
+// What a recipient gets, by its code.
+#[derive(Clone, Copy, PartialEq, Eq, Debug)]
 pub(crate) enum RecipientCode {
-    // 250
-    Accepted,
-    // 450
-    TryLater,
-    // 550
-    Refused,
+    Accepted = 250,
+    TryLater = 450,
+    Refused = 550,
 }
 
 impl RecipientCode {
-    // The code of a number: 250, 450 or 550.
-    fn of_number(code: u16) -> Option<RecipientCode>
-        ensures { result ≡ recipient_code code }
-    {
-        match code {
-            250 => Some(RecipientCode::Accepted),
-            450 => Some(RecipientCode::TryLater),
-            550 => Some(RecipientCode::Refused),
-            _ => None,
-        }
-    }
-
     // The code as it begins a line, with the blank behind it.
-    pub(crate) fn front(self) -> &'static [u8]
-        ensures { result.now ≡ coded (recipient_number self) 32 }
+    pub(crate) fn front(self) -> [u8; 4]
+        ensures { result ≡ coded (recipient_number self) 32 }
     {
-        match self {
-            RecipientCode::Accepted => b"250 ",
-            RecipientCode::TryLater => b"450 ",
-            RecipientCode::Refused => b"550 ",
+        let code = self as u16;
+        [
+            b'0' + (code / 100) as u8,
+            b'0' + (code / 10 % 10) as u8,
+            b'0' + (code % 10) as u8,
+            b' ',
+        ]
+    }
+}
+
+// A number that is no recipient's code.
+#[derive(Clone, Copy, PartialEq, Eq, Debug)]
+pub(crate) struct UnknownCode(pub(crate) u16);
+
+impl TryFrom<u16> for RecipientCode {
+    type Error = UnknownCode;
+
+    ghost try_from_gives = { λ code r. r ≡ ok_or (recipient_code code) (record { 0 = code }) };
+
+    fn try_from(code: u16) -> Result<RecipientCode, UnknownCode> {
+        match code {
+            250 => Ok(RecipientCode::Accepted),
+            450 => Ok(RecipientCode::TryLater),
+            550 => Ok(RecipientCode::Refused),
+            _ => Err(UnknownCode(code)),
         }
     }
 }
 
-// The trust of a number, 0 to 2.
-fn trust_of(number: u8) -> Option<Trust>
-    ensures { result ≡ trust_of number }
-{
-    match number {
-        0 => Some(Trust::None),
-        1 => Some(Trust::Chain),
-        2 => Some(Trust::Dane),
-        _ => None,
+impl From<UnknownCode> for Refusal {
+    ghost from_gives = { λ _ refusal. refusal ≡ BadHouseHost };
+
+    fn from(_: UnknownCode) -> Refusal {
+        Refusal::BadHouseHost
     }
 }
 
@@ -68,6 +72,7 @@ pub struct HouseHost<'n> {
 
 impl<'n> HouseHost<'n> {
     // A house host: 7 if the name is no host name, 15 for a trust above 2 or a code that is not 250, 450 or 550.
+    // Trust and code come as numbers, since refusal 15 is about numbers that are none of theirs.
     pub fn new(
         name: &'n [u8],
         starttls: bool,
@@ -80,18 +85,12 @@ impl<'n> HouseHost<'n> {
         if !is_host_name(name) {
             return Err(Refusal::BadHost);
         }
-        let Some(trust) = trust_of(trust) else {
-            return Err(Refusal::BadHouseHost);
-        };
-        let Some(recipient) = RecipientCode::of_number(code) else {
-            return Err(Refusal::BadHouseHost);
-        };
         Ok(HouseHost {
             name,
             starttls,
             requiretls,
-            trust,
-            recipient,
+            trust: Trust::try_from(trust)?,
+            recipient: RecipientCode::try_from(code)?,
         })
     }
 

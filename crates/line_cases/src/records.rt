@@ -15,7 +15,7 @@ fn a_record_is_read(rt: HostRuntime) -> Result<(), Fail> {
         return Err(Fail::new("no record"));
     };
     assert_eq!(rt; entry.visit, 12);
-    assert!(rt; matches!(entry.letter, Letter::Covered));
+    assert_eq!(rt; entry.letter, Letter::Covered);
     assert!(rt; entry.bytes == b"QUIT\r\n".as_slice());
     assert_eq!(rt; entry.size(), 18);
     Ok(())

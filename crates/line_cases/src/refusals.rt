@@ -9,14 +9,14 @@ fn a_closed_line(rt: HostRuntime) -> Result<(), Fail> {
     let mut reply = [0u8; 4096];
     let sheet = Sheet::read(b"")?;
     let mut line = SheetLine::new(sheet, &mut out);
-    assert!(rt; matches!(line.put(b"x"), Err(Refusal::WrongStanding)));
-    assert!(rt; matches!(line.take(&mut short), Err(Refusal::ShortBuffer)));
-    assert!(rt; matches!(line.take(&mut reply), Err(Refusal::WrongStanding)));
-    assert!(rt; matches!(line.cover(&mut short), Err(Refusal::ShortBuffer)));
-    assert!(rt; matches!(line.cover(&mut reply), Err(Refusal::WrongStanding)));
-    assert!(rt; matches!(line.close(), Err(Refusal::WrongStanding)));
-    assert!(rt; matches!(line.open(b""), Err(Refusal::BadHost)));
-    assert!(rt; matches!(line.open(b"a..b"), Err(Refusal::BadHost)));
+    assert_eq!(rt; line.put(b"x"), Err(Refusal::WrongStanding));
+    assert_eq!(rt; line.take(&mut short), Err(Refusal::ShortBuffer));
+    assert_eq!(rt; line.take(&mut reply), Err(Refusal::WrongStanding));
+    assert_eq!(rt; line.cover(&mut short), Err(Refusal::ShortBuffer));
+    assert_eq!(rt; line.cover(&mut reply), Err(Refusal::WrongStanding));
+    assert_eq!(rt; line.close(), Err(Refusal::WrongStanding));
+    assert_eq!(rt; line.open(b""), Err(Refusal::BadHost));
+    assert_eq!(rt; line.open(b"a..b"), Err(Refusal::BadHost));
     assert!(rt; line.transcript().is_empty());
     Ok(())
 }
@@ -28,19 +28,19 @@ fn an_open_line(rt: HostRuntime) -> Result<(), Fail> {
     let sheet = Sheet::read(b"    1H    5 2 a\r\n")?;
     let mut line = SheetLine::new(sheet, &mut out);
     assert!(rt; line.open(b"a").is_ok());
-    assert!(rt; matches!(line.open(b"a b"), Err(Refusal::BadHost)));
-    assert!(rt; matches!(line.open(b"b"), Err(Refusal::WrongStanding)));
-    assert!(rt; matches!(line.put(b""), Err(Refusal::NoRoom)));
-    assert!(rt; matches!(line.cover(&mut reply), Ok(Some((Trust::Dane, 1)))));
-    assert!(rt; matches!(line.cover(&mut reply), Err(Refusal::WrongStanding)));
-    assert!(rt; matches!(line.take(&mut reply), Ok(None)));
-    assert!(rt; matches!(line.take(&mut reply), Err(Refusal::WrongStanding)));
+    assert_eq!(rt; line.open(b"a b"), Err(Refusal::BadHost));
+    assert_eq!(rt; line.open(b"b"), Err(Refusal::WrongStanding));
+    assert_eq!(rt; line.put(b""), Err(Refusal::NoRoom));
+    assert_eq!(rt; line.cover(&mut reply), Ok(Some((Trust::Dane, 1))));
+    assert_eq!(rt; line.cover(&mut reply), Err(Refusal::WrongStanding));
+    assert_eq!(rt; line.take(&mut reply), Ok(None));
+    assert_eq!(rt; line.take(&mut reply), Err(Refusal::WrongStanding));
     assert_eq!(rt; line.visit(), 1);
     Ok(())
 }
 
 fn breaks_form(sheet: &[u8]) -> bool {
-    matches!(Sheet::read(sheet), Err(Refusal::BadSheet))
+    Sheet::read(sheet).err() == Some(Refusal::BadSheet)
 }
 
 #[test]
@@ -76,8 +76,8 @@ fn handshakes_that_break_their_form(rt: HostRuntime) {
 
 #[test]
 fn sheets_in_their_form(rt: HostRuntime) {
-    assert!(rt; !breaks_form(b""));
-    assert!(rt; !breaks_form(b"    1R    0 "));
-    assert!(rt; !breaks_form(b"    1H    4 0 \r\n"));
-    assert!(rt; !breaks_form(b"    3R    2 \r\n    3H    5 1 a\r\n99999R    1 x"));
+    assert!(rt; Sheet::read(b"").is_ok());
+    assert!(rt; Sheet::read(b"    1R    0 ").is_ok());
+    assert!(rt; Sheet::read(b"    1H    4 0 \r\n").is_ok());
+    assert!(rt; Sheet::read(b"    3R    2 \r\n    3H    5 1 a\r\n99999R    1 x").is_ok());
 }

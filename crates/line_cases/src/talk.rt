@@ -1,50 +1,49 @@
-use line::{Line, SheetLine, Trust};
-use smtp::Refusal;
+use line::{Line, Trust};
 
-// Whether what was taken is this text, and lies at the front of the buffer.
-fn is_front(taken: Result<Option<usize>, Refusal>, buffer: &[u8], text: &[u8]) -> bool {
-    match taken {
-        Ok(Some(n)) => n <= buffer.len() && &buffer[0..n] == text,
-        Ok(None) => false,
-        Err(_) => false,
+// A talk over a line: the line, and the buffer that it answers into.
+#[derive(Drop)]
+pub struct Talk<L> {
+    pub line: L,
+    pub buffer: [u8; 4096],
+}
+
+impl<L: Line> Talk<L> {
+    // A talk over a line, whose buffer holds nothing but this byte.
+    pub fn over(line: L, filled: u8) -> Talk<L> {
+        Talk {
+            line,
+            buffer: [filled; 4096],
+        }
     }
-}
 
-// Opens a name, and whether the greeting is this reply.
-pub fn greets<L: Line>(line: &mut L, name: &[u8], buffer: &mut [u8], reply: &[u8]) -> bool {
-    if line.open(name).is_err() {
-        return false;
+    // Takes a reply, and whether it is this text and lies at the buffer's front.
+    fn hears(&mut self, reply: &[u8]) -> bool {
+        self.line.take(&mut self.buffer) == Ok(Some(reply.len())) && self.buffer.starts_with(reply)
     }
-    let taken = line.take(buffer);
-    is_front(taken, buffer, reply)
-}
 
-// Puts a piece, and whether the answer is this reply.
-pub fn answers<L: Line>(line: &mut L, piece: &[u8], buffer: &mut [u8], reply: &[u8]) -> bool {
-    if line.put(piece).is_err() {
-        return false;
+    // Takes a reply, and whether it is lost.
+    pub fn hears_nothing(&mut self) -> bool {
+        self.line.take(&mut self.buffer) == Ok(None)
     }
-    let taken = line.take(buffer);
-    is_front(taken, buffer, reply)
-}
 
-// Puts a piece, and whether the reply is lost.
-pub fn loses<L: Line>(line: &mut L, piece: &[u8], buffer: &mut [u8]) -> bool {
-    line.put(piece).is_ok() && matches!(line.take(buffer), Ok(None))
-}
-
-// Covers the line, and whether the handshake's answer is this trust and this names text.
-pub fn covers<L: Line>(line: &mut L, buffer: &mut [u8], trust: Trust, names: &[u8]) -> bool {
-    match line.cover(buffer) {
-        Ok(Some((t, n))) => t.number() == trust.number()
-            && n <= buffer.len()
-            && &buffer[0..n] == names,
-        Ok(None) => false,
-        Err(_) => false,
+    // Opens a name, and whether the greeting is this reply.
+    pub fn greets(&mut self, name: &[u8], reply: &[u8]) -> bool {
+        self.line.open(name).is_ok() && self.hears(reply)
     }
-}
 
-// Whether the line has written this transcript.
-pub fn wrote(line: &SheetLine, transcript: &[u8]) -> bool {
-    line.transcript() == transcript
+    // Puts a piece, and whether the answer is this reply.
+    pub fn answers(&mut self, piece: &[u8], reply: &[u8]) -> bool {
+        self.line.put(piece).is_ok() && self.hears(reply)
+    }
+
+    // Puts a piece, and whether the reply is lost.
+    pub fn loses(&mut self, piece: &[u8]) -> bool {
+        self.line.put(piece).is_ok() && self.hears_nothing()
+    }
+
+    // Covers the line, and whether the handshake's answer is this trust and this names text.
+    pub fn covers(&mut self, trust: Trust, names: &[u8]) -> bool {
+        self.line.cover(&mut self.buffer) == Ok(Some((trust, names.len())))
+            && self.buffer.starts_with(names)
+    }
 }

@@ -1,54 +1,34 @@
-use crate::talk::{answers, covers, greets, loses, wrote};
+use crate::talk::Talk;
 use line::{Line, Sheet, SheetLine, Standing, Trust};
 use std::test::Fail;
+
+// A host that lists STARTTLS in the clear and REQUIRETLS under TLS, and another at visit 3.
+const VISITS: &[u8] =
+    b"    1R   17 220 mx1.example\r\n    1R   31 250-mx1.example\r\n250 STARTTLS\r\n    1R   14 220 go ahead\r\n    1H   27 1 mx1.example *.d.example\r\n    1R   33 250-mx1.example\r\n250 REQUIRETLS\r\n    3R   17 220 mx3.example\r\n";
 
 #[test]
 fn a_visit_as_the_sheet_says(rt: HostRuntime) -> Result<(), Fail> {
     let mut out = [0u8; 200];
-    let mut reply = [0u8; 4096];
-    let sheet = Sheet::read(
-        b"    1R   17 220 mx1.example\r\n    1R   31 250-mx1.example\r\n250 STARTTLS\r\n    1R   14 220 go ahead\r\n    1H   27 1 mx1.example *.d.example\r\n    1R   33 250-mx1.example\r\n250 REQUIRETLS\r\n    3R   17 220 mx3.example\r\n",
-    )?;
-    let mut line = SheetLine::new(sheet, &mut out);
+    let mut talk = Talk::over(SheetLine::new(Sheet::read(VISITS)?, &mut out), 0);
+    assert!(rt; talk.greets(b"mx1.example", b"220 mx1.example\r\n"));
     assert!(rt;
-        greets(
-            &mut line,
-            b"mx1.example",
-            &mut reply,
-            b"220 mx1.example\r\n",
-        )
-    );
-    assert!(rt;
-        answers(
-            &mut line,
+        talk.answers(
             b"EHLO out.example\r\n",
-            &mut reply,
             b"250-mx1.example\r\n250 STARTTLS\r\n",
         )
     );
-    assert!(rt; answers(&mut line, b"STARTTLS\r\n", &mut reply, b"220 go ahead\r\n"));
+    assert!(rt; talk.answers(b"STARTTLS\r\n", b"220 go ahead\r\n"));
+    assert!(rt; talk.covers(Trust::Chain, b"mx1.example *.d.example"));
     assert!(rt;
-        covers(
-            &mut line,
-            &mut reply,
-            Trust::Chain,
-            b"mx1.example *.d.example",
-        )
-    );
-    assert!(rt;
-        answers(
-            &mut line,
+        talk.answers(
             b"EHLO out.example\r\n",
-            &mut reply,
             b"250-mx1.example\r\n250 REQUIRETLS\r\n",
         )
     );
-    assert!(rt; line.put(b"QUIT\r\n").is_ok() && line.close().is_ok());
+    assert!(rt; talk.line.put(b"QUIT\r\n").is_ok() && talk.line.close().is_ok());
     assert!(rt;
-        wrote(
-            &line,
-            b"    1O   13 mx1.example\r\n    1C   18 EHLO out.example\r\n    1C   10 STARTTLS\r\n    1T   18 EHLO out.example\r\n    1T    6 QUIT\r\n",
-        )
+        talk.line.transcript()
+            == b"    1O   13 mx1.example\r\n    1C   18 EHLO out.example\r\n    1C   10 STARTTLS\r\n    1T   18 EHLO out.example\r\n    1T    6 QUIT\r\n".as_slice()
     );
     Ok(())
 }
@@ -57,16 +37,15 @@ fn a_visit_as_the_sheet_says(rt: HostRuntime) -> Result<(), Fail> {
 #[test]
 fn a_reply_left_before_the_handshake_stays_there(rt: HostRuntime) -> Result<(), Fail> {
     let mut out = [0u8; 200];
-    let mut reply = [0u8; 4096];
     let sheet = Sheet::read(
         b"    1R    7 220 a\r\n    1R    7 250 b\r\n    1R   10 250 left\r\n    1H    5 2 a\r\n",
     )?;
-    let mut line = SheetLine::new(sheet, &mut out);
-    assert!(rt; greets(&mut line, b"a", &mut reply, b"220 a\r\n"));
-    assert!(rt; answers(&mut line, b"EHLO b\r\n", &mut reply, b"250 b\r\n"));
-    assert!(rt; covers(&mut line, &mut reply, Trust::Dane, b"a"));
-    assert!(rt; loses(&mut line, b"EHLO b\r\n", &mut reply));
-    assert!(rt; matches!(line.standing(), Standing::Closed));
+    let mut talk = Talk::over(SheetLine::new(sheet, &mut out), 0);
+    assert!(rt; talk.greets(b"a", b"220 a\r\n"));
+    assert!(rt; talk.answers(b"EHLO b\r\n", b"250 b\r\n"));
+    assert!(rt; talk.covers(Trust::Dane, b"a"));
+    assert!(rt; talk.loses(b"EHLO b\r\n"));
+    assert_eq!(rt; talk.line.standing(), Standing::Closed);
     Ok(())
 }
 
@@ -74,16 +53,15 @@ fn a_reply_left_before_the_handshake_stays_there(rt: HostRuntime) -> Result<(), 
 #[test]
 fn replies_behind_the_first_handshake(rt: HostRuntime) -> Result<(), Fail> {
     let mut out = [0u8; 200];
-    let mut reply = [0u8; 4096];
     let sheet = Sheet::read(
         b"    1R    7 220 a\r\n    1R   10 250 left\r\n    1H    5 2 a\r\n    1R   12 250 behind\r\n    1H    5 0 b\r\n    1R   10 250 more\r\n",
     )?;
-    let mut line = SheetLine::new(sheet, &mut out);
-    assert!(rt; greets(&mut line, b"a", &mut reply, b"220 a\r\n"));
-    assert!(rt; covers(&mut line, &mut reply, Trust::Dane, b"a"));
-    assert!(rt; answers(&mut line, b"one\r\n", &mut reply, b"250 behind\r\n"));
-    assert!(rt; answers(&mut line, b"two\r\n", &mut reply, b"250 more\r\n"));
-    assert!(rt; loses(&mut line, b"three\r\n", &mut reply));
+    let mut talk = Talk::over(SheetLine::new(sheet, &mut out), 0);
+    assert!(rt; talk.greets(b"a", b"220 a\r\n"));
+    assert!(rt; talk.covers(Trust::Dane, b"a"));
+    assert!(rt; talk.answers(b"one\r\n", b"250 behind\r\n"));
+    assert!(rt; talk.answers(b"two\r\n", b"250 more\r\n"));
+    assert!(rt; talk.loses(b"three\r\n"));
     Ok(())
 }
 
@@ -91,26 +69,15 @@ fn replies_behind_the_first_handshake(rt: HostRuntime) -> Result<(), Fail> {
 #[test]
 fn one_visit_after_the_other(rt: HostRuntime) -> Result<(), Fail> {
     let mut out = [0u8; 300];
-    let mut reply = [0u8; 4096];
-    let sheet = Sheet::read(
-        b"    1R   17 220 mx1.example\r\n    1R   31 250-mx1.example\r\n250 STARTTLS\r\n    1R   14 220 go ahead\r\n    1H   27 1 mx1.example *.d.example\r\n    1R   33 250-mx1.example\r\n250 REQUIRETLS\r\n    3R   17 220 mx3.example\r\n",
-    )?;
-    let mut line = SheetLine::new(sheet, &mut out);
-    assert!(rt; line.visit() == 0 && line.open(b"mx1.example").is_ok());
-    assert!(rt; line.put(b"EHLO a\r\n").is_ok() && line.put(b"EHLO b\r\n").is_ok());
-    assert!(rt; line.pieces() == 2 && line.close().is_ok());
-    assert!(rt; line.pieces() == 0 && line.open(b"mx2.example").is_ok());
-    assert!(rt; line.visit() == 2 && line.pieces() == 0);
-    assert!(rt; matches!(line.take(&mut reply), Ok(None)));
-    assert!(rt;
-        greets(
-            &mut line,
-            b"mx3.example",
-            &mut reply,
-            b"220 mx3.example\r\n",
-        )
-    );
-    assert!(rt; line.visit() == 3);
+    let mut talk = Talk::over(SheetLine::new(Sheet::read(VISITS)?, &mut out), 0);
+    assert!(rt; talk.line.visit() == 0 && talk.line.open(b"mx1.example").is_ok());
+    assert!(rt; talk.line.put(b"EHLO a\r\n").is_ok() && talk.line.put(b"EHLO b\r\n").is_ok());
+    assert!(rt; talk.line.pieces() == 2 && talk.line.close().is_ok());
+    assert!(rt; talk.line.pieces() == 0 && talk.line.open(b"mx2.example").is_ok());
+    assert!(rt; talk.line.visit() == 2 && talk.line.pieces() == 0);
+    assert!(rt; talk.hears_nothing());
+    assert!(rt; talk.greets(b"mx3.example", b"220 mx3.example\r\n"));
+    assert!(rt; talk.line.visit() == 3);
     Ok(())
 }
 
@@ -118,21 +85,11 @@ fn one_visit_after_the_other(rt: HostRuntime) -> Result<(), Fail> {
 #[test]
 fn nothing_is_due(rt: HostRuntime) -> Result<(), Fail> {
     let mut out = [0u8; 100];
-    let mut reply = [9u8; 4096];
-    let sheet = Sheet::read(
-        b"    1R   17 220 mx1.example\r\n    1R   31 250-mx1.example\r\n250 STARTTLS\r\n    1R   14 220 go ahead\r\n    1H   27 1 mx1.example *.d.example\r\n    1R   33 250-mx1.example\r\n250 REQUIRETLS\r\n    3R   17 220 mx3.example\r\n",
-    )?;
-    let mut line = SheetLine::new(sheet, &mut out);
-    assert!(rt;
-        greets(
-            &mut line,
-            b"mx1.example",
-            &mut reply,
-            b"220 mx1.example\r\n",
-        )
-    );
-    assert!(rt; matches!(line.take(&mut reply), Ok(None)));
-    assert!(rt; &reply[0..18] == b"220 mx1.example\r\n\t".as_slice());
-    assert!(rt; matches!(line.standing(), Standing::Closed) && line.room() == 75);
+    let mut talk = Talk::over(SheetLine::new(Sheet::read(VISITS)?, &mut out), 9);
+    assert!(rt; talk.greets(b"mx1.example", b"220 mx1.example\r\n"));
+    assert!(rt; talk.hears_nothing());
+    assert!(rt; talk.buffer.starts_with(b"220 mx1.example\r\n\t"));
+    assert_eq!(rt; talk.line.standing(), Standing::Closed);
+    assert_eq!(rt; talk.line.room(), 75);
     Ok(())
 }

@@ -1,21 +1,11 @@
 -- The header, line by line.
-use Rattle.std.proofs.Common.{◌≡◌, ℕ, ◌+◌, ◌≤◌, Bool, true, false, cond, List, [], ◌∷◌, ◌++◌, length, take, drop, sym, refl, ap, ◌∙◌, length-append}
-use Rattle.std.proofs.lemmas.List.{at_drop_all}
+use Rattle.std.proofs.Common.{◌≡◌, ℕ, ◌≤◌, Bool, true, false, cond, not, List, [], ◌∷◌, ◌++◌, length, take, sym, refl, ap, ◌∙◌, subst, length-append, arith}
+use Rattle.std.proofs.lemmas.List.Recursion.{is_sum_by}
+use Rattle.std.proofs.lemmas.List.Sums.{take_while-cons}
+use Rattle.std.specs.List.{sum_by, take_while}
 use lib.Seq.{take-append-add}
 use Rattle.message.specs.Lines.{lines_of, joined, empty_line, before_empty, header}
 use Rattle.message.proofs.Lined.{joined_lines}
-
-cond_length : (b : Bool) (l : List ℕ) (ls : List (List ℕ)) → length (joined (cond b [] (l ∷ ls))) ≡ cond b 0 (length l + length (joined ls))
-cond_length true l ls = refl
-cond_length false l ls = length-append l (joined ls)
-
-pub header_at : (s : List ℕ) (at : ℕ) (l : List ℕ) → lines_of (drop at s) ≡ l ∷ lines_of (drop (at + length l) s) →
-    length (header (drop at s)) ≡ cond (empty_line l) 0 (length l + length (header (drop (at + length l) s)))
-header_at s at l e =
-    ap (λ (ls : List (List ℕ)). length (joined (before_empty ls))) e ∙ cond_length (empty_line l) l (before_empty (lines_of (drop (at + length l) s)))
-
-pub header_all : (s : List ℕ) (at : ℕ) → length s ≤ at → length (header (drop at s)) ≡ 0
-header_all s at h = at_drop_all (λ (t : List ℕ). length (header t)) s at h
 
 cond_take : (b : Bool) (l : List ℕ) (ls : List (List ℕ)) (s : List ℕ) → take (length (joined ls)) s ≡ joined ls →
     take (length (joined (cond b [] (l ∷ ls)))) (l ++ s) ≡ joined (cond b [] (l ∷ ls))
@@ -27,6 +17,35 @@ before_take : (ls : List (List ℕ)) → take (length (joined (before_empty ls))
 before_take [] = refl
 before_take (l ∷ ls) = cond_take (empty_line l) l (before_empty ls) (joined ls) (before_take ls)
 
+-- how long lines are together
+pub joined_sum : (ls : List (List ℕ)) → length (joined ls) ≡ sum_by length ls
+joined_sum = is_sum_by (λ ls. length (joined ls)) length refl (λ l ls. length-append l (joined ls))
+
+pub before_while : (ls : List (List ℕ)) → before_empty ls ≡ take_while (λ l. not (empty_line l)) ls
+before_while [] = refl
+before_while (l ∷ ls) =
+    elim (empty_line l) as (λ b. cond b [] (l ∷ before_empty ls) ≡ cond (not b) (l ∷ take_while (λ l. not (empty_line l)) ls) []) [ true ↦ refl | false ↦ ap (λ ms. l ∷ ms) (before_while ls) ]
+    ∙ sym (take_while-cons (λ l. not (empty_line l)) l ls)
+
 -- the header is the front of the section
 pub header_take : (s : List ℕ) → take (length (header s)) s ≡ header s
 header_take s = ap (λ (t : List ℕ). take (length (header s)) t) (sym (joined_lines s)) ∙ before_take (lines_of s)
+
+grows : (l a b : List ℕ) → length a ≤ length b → length (l ++ a) ≤ length (l ++ b)
+grows l a b h = omega (arith, length-append l a, length-append l b)
+
+none_most : (b : List ℕ) → length {A = ℕ} [] ≤ length b
+none_most b = omega arith
+
+-- the lines at the front that pass a test take no more than the text
+while_most : (test : List ℕ → Bool) (ls : List (List ℕ)) → length (joined (take_while test ls)) ≤ length (joined ls)
+while_most test [] = omega arith
+while_most test (l ∷ ls) =
+    subst (λ ms. length (joined ms) ≤ length (l ++ joined ls)) (sym (take_while-cons test l ls))
+    (elim (test l) as (λ b. length (joined (cond b (l ∷ take_while test ls) [])) ≤ length (l ++ joined ls)) [
+      | true ↦ grows l (joined (take_while test ls)) (joined ls) (while_most test ls)
+      | false ↦ none_most (l ++ joined ls)
+    ])
+
+pub front_most : (test : List ℕ → Bool) (s : List ℕ) → length (joined (take_while test (lines_of s))) ≤ length s
+front_most test s = subst (λ t. length (joined (take_while test (lines_of s))) ≤ length t) (joined_lines s) (while_most test (lines_of s))

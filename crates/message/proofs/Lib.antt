@@ -1,3 +1,4 @@
+pub mod Chains
 pub mod Formed
 pub mod FormedLines
 pub mod Headed
@@ -10,5 +11,5 @@ pub mod MailRounds
 pub mod MailTexts
 pub mod MailWriting
 pub mod Stuffed
-pub mod Tagged
+pub mod Tags
 pub mod Unstuffed

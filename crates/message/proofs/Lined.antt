@@ -1,7 +1,7 @@
 -- The lines of a text, the first apart from those behind it.
-use Rattle.std.proofs.Common.{◌≡◌, ℕ, suc, ◌+◌, ◌<◌, ◌≤◌, List, [], ◌∷◌, length, take, drop, refl, ap, ◌∙◌, add-one, arith}
+use Rattle.std.proofs.Common.{◌≡◌, ℕ, suc, ◌+◌, ◌<◌, List, [], ◌∷◌, length, take, drop, ◌++◌, sym, refl, ap, ◌∙◌, add-one, arith}
 use Rattle.std.proofs.lemmas.Bool.Decides.{nat_tests}
-use Rattle.std.proofs.lemmas.List.{drop-drop, length-drop}
+use Rattle.std.proofs.lemmas.List.{length-append, take-append-drop}
 use Rattle.smtp.specs.Parts.{first_part}
 use Rattle.message.specs.Lines.{longer, lines_of, joined, first_of, first_line}
 
@@ -22,12 +22,12 @@ joined_longer x [] = refl
 joined_longer x (l ∷ ls) = refl
 
 -- the first line is the front of the text
-pub first_take : (s : List ℕ) → take (length (first_line s)) s ≡ first_line s
+first_take : (s : List ℕ) → take (length (first_line s)) s ≡ first_line s
 first_take [] = refl
 first_take (x ∷ s) = let e = first_take s in let f = first_longer x (lines_of s) in grind (arith, nat_tests)
 
 -- the other lines are those of what stands behind it
-pub rest_drop : (s : List ℕ) → rest_of (lines_of s) ≡ lines_of (drop (length (first_line s)) s)
+rest_drop : (s : List ℕ) → rest_of (lines_of s) ≡ lines_of (drop (length (first_line s)) s)
 rest_drop [] = refl
 rest_drop (x ∷ s) = let e = rest_drop s in let f = first_longer x (lines_of s) in let g = rest_longer x (lines_of s) in grind (arith, nat_tests)
 
@@ -40,7 +40,7 @@ first_suc : (s : List ℕ) → take (suc (length (first_part 10 s))) s ≡ first
 first_suc [] = refl
 first_suc (x ∷ s) = let e = first_suc s in let f = first_longer x (lines_of s) in grind (arith, nat_tests)
 
-pub first_upto : (s : List ℕ) → take (length (first_part 10 s) + 1) s ≡ first_line s
+first_upto : (s : List ℕ) → take (length (first_part 10 s) + 1) s ≡ first_line s
 first_upto s = rw add-one (first_suc s)
 
 longer_some : (x : ℕ) (ls : List (List ℕ)) → longer x ls ≡ first_of (longer x ls) ∷ rest_of (longer x ls)
@@ -51,31 +51,35 @@ lines_parts : (x : ℕ) (s : List ℕ) → lines_of (x ∷ s) ≡ first_line (x 
 lines_parts x s = let e = longer_some x (lines_of s) in grind (arith, nat_tests)
 
 -- a text that is not empty is its first line and those behind it
-pub lines_some : (s : List ℕ) → 0 < length s → lines_of s ≡ first_line s ∷ lines_of (drop (length (first_line s)) s)
+lines_some : (s : List ℕ) → 0 < length s → lines_of s ≡ first_line s ∷ lines_of (drop (length (first_line s)) s)
 lines_some [] h = absurd (omega arith)
 lines_some (x ∷ s) h = lines_parts x s ∙ ap (λ (ls : List (List ℕ)). first_line (x ∷ s) ∷ ls) (rest_drop (x ∷ s))
 
--- the same at a place of a text
-lines_at : (s : List ℕ) (at : ℕ) → at < length s → lines_of (drop at s) ≡ first_line (drop at s) ∷ lines_of (drop (at + length (first_line (drop at s))) s)
-lines_at s at h =
-    let n : 0 < length (drop at s) = simp length-drop (omega arith) in
-    lines_some (drop at s) n ∙ ap (λ (t : List ℕ). first_line (drop at s) ∷ lines_of t) (drop-drop (length (first_line (drop at s))) at s)
-
-pub first_some : (s : List ℕ) → 0 < length s → 0 < length (first_line s)
+first_some : (s : List ℕ) → 0 < length s → 0 < length (first_line s)
 first_some [] h = absurd (omega arith)
 first_some (x ∷ s) h = let f = first_longer x (lines_of s) in grind (arith, nat_tests)
 
-pub first_within : (s : List ℕ) → length (first_line s) ≤ length s
-first_within [] = omega arith
-first_within (x ∷ s) = let e = first_within s in let f = first_longer x (lines_of s) in grind (arith, nat_tests)
+-- the first line cut off at the first LF
+pub lines_cut : (s line rest : List ℕ) → 0 < length s → line ≡ take (length (first_part 10 s) + 1) s → rest ≡ drop (length line) s → lines_of s ≡ line ∷ lines_of rest
+lines_cut s line rest h e f =
+    let l = e ∙ first_upto s in
+    lines_some s h ∙ (λ i. sym l i ∷ lines_of (drop (length (sym l i)) s)) ∙ ap (λ t. line ∷ lines_of t) (sym f)
 
--- a line at a place has some bytes, all within the text, and the other lines begin behind it
-pub line_at : (s : List ℕ) (at : ℕ) (l : List ℕ) → at < length s → l ≡ first_line (drop at s) →
-    (0 < length l) × (at + length l ≤ length s) × (lines_of (drop at s) ≡ l ∷ lines_of (drop (at + length l) s))
-line_at s at l h e =
-    let n = length-drop at s in
-    let a = first_some (drop at s) (omega arith) in
-    let b = first_within (drop at s) in
-    let d = lines_at s at h in
-    let f = ap length e in
-    (omega arith, omega arith, simp e d)
+-- the same text as its first line and the lines behind it
+pub line_front : (t l : List ℕ) (ls : List (List ℕ)) → lines_of t ≡ l ∷ ls → (u : List ℕ) × (t ≡ l ++ u) × (lines_of u ≡ ls)
+line_front t l ls e =
+    let f : l ≡ first_line t = sym (ap first_of e) in
+    let g : take (length l) t ≡ l = ap (λ l. take (length l) t) f ∙ first_take t ∙ sym f in
+    (drop (length l) t, sym (take-append-drop (length l) t) ∙ ap (λ m. m ++ drop (length l) t) g, ap (λ l. lines_of (drop (length l) t)) f ∙ sym (rest_drop t) ∙ ap rest_of e)
+
+line_some : (s l : List ℕ) (ls : List (List ℕ)) → lines_of s ≡ l ∷ ls → 0 < length l
+line_some [] l ls e = absurd (let z : ◌≡◌ {A = ℕ} 0 1 = cc in omega arith)
+line_some (x ∷ s) l ls e = let h = first_some (x ∷ s) (omega arith) in let k = ap (λ ms. length (first_of ms)) e in omega arith
+
+pub front_some : (s l t : List ℕ) → lines_of s ≡ l ∷ lines_of t → (0 < length l) × (s ≡ l ++ t)
+front_some s l t e =
+    let (u, f, g) = line_front s l (lines_of t) e in
+    (line_some s l (lines_of t) e, f ∙ ap (λ u. l ++ u) (sym (joined_lines u) ∙ ap joined g ∙ joined_lines t))
+
+pub first_len : (s l t : List ℕ) → lines_of s ≡ l ∷ lines_of t → (0 < length l) × (length s ≡ length l + length t)
+first_len s l t e = let (a, f) = front_some s l t e in (a, ap length f ∙ length-append l t)

@@ -1,118 +1,111 @@
 -- Options read one after the other: what they say, by what those before have said.
-use Rattle.std.proofs.Common.{◌≡◌, ℕ, ◌<◌, Bool, true, false, ◌&&◌, ◌||◌, eqb, List, [], ◌∷◌, length, drop, refl, ap, ◌∙◌, arith}
-use Rattle.std.proofs.lemmas.Bool.Decides.{nat_tests}
+use Rattle.std.proofs.Common.{◌≡◌, ℕ, Bool, true, false, cond, ◌&&◌, ◌||◌, eqb, fold, List, [], ◌∷◌, length, Option, Bor, sym, refl, ap, ◌∙◌, subst}
+use Rattle.std.specs.Option.{MatchOption}
+use Rattle.std.proofs.lemmas.Iterator.{YieldsList}
+use Rattle.message.proofs.Chains.{next_is}
+use Rattle.std.specs.List.{list_all, slice_split, onto_first}
 use Rattle.smtp.specs.Bytes.{all, some}
-use Rattle.smtp.specs.Parts.{first_part, other_parts, from_first}
-use Rattle.message.specs.declared.mail_options.Tally.{Tally}
+use Rattle.smtp.specs.Parts.{first_part, other_parts}
+use Rattle.message.specs.declared.mail_options.Count.{Count}
+use Rattle.message.specs.declared.mail_options.Count.TheVariants.{Never, Once, Repeated}
 use Rattle.message.specs.declared.mail_options.Options.{Options}
 use Rattle.message.specs.MailLines.{option_form, is_known, is_require_tls, is_size, is_ret, twice}
-use Rattle.message.specs.MailParts.{counted, none_seen, seen, options_in}
+use Rattle.message.specs.MailParts.{counted, is_seen, is_repeated, none_seen, seen, count_of, options_in}
 
--- options seen one after the other
-abbrev pub over : Options → List (List ℕ) → Options
-over options [] = options
-over options (p ∷ ps) = over (seen options p) ps
+pub all_holds : (test : ℕ → Bool) (s : List ℕ) → list_all test s ≡ all test s
+all_holds test [] = refl
+all_holds test (x ∷ s) = ap (λ b. test x && b) (all_holds test s)
 
--- a tally of options, by the tally of those before
-abbrev on_tally : Tally → (List ℕ → Bool) → List (List ℕ) → Tally
-on_tally t test ps = record { once = t.once || some test ps; twice = t.twice || ((t.once && some test ps) || twice test ps) }
+-- the options that pass a test, counted one after the other
+abbrev count_on : (List ℕ → Bool) → Count → List (List ℕ) → Count
+count_on test = fold (λ c p. counted c (test p))
 
-or_assoc : (a b c : Bool) → ((a || b) || c) ≡ (a || (b || c))
-or_assoc true b c = refl
-or_assoc false b c = refl
+-- whether all pass, tested one after the other
+abbrev all_on : (List ℕ → Bool) → Bool → List (List ℕ) → Bool
+all_on test = fold (λ b p. b && test p)
 
-twice_more : (o w x s v : Bool) → ((w || (o && x)) || (((o || x) && s) || v)) ≡ (w || ((o && (x || s)) || ((x && s) || v)))
-twice_more true true x s v = refl
-twice_more true false true s v = grind (arith, nat_tests)
-twice_more true false false s v = refl
-twice_more false true x s v = refl
-twice_more false false x s v = refl
-
-tally_more : (t : Tally) (test : List ℕ → Bool) (p : List ℕ) (ps : List (List ℕ)) → on_tally (counted t (test p)) test ps ≡ on_tally t test (p ∷ ps)
-tally_more t test p ps =
-    let e = or_assoc t.once (test p) (some test ps) in
-    let f = twice_more t.once t.twice (test p) (some test ps) (twice test ps) in
-    cc
-
--- the same by what they say together
-abbrev on_options : Options → List (List ℕ) → Options
-on_options o ps = record {
-  formed = o.formed && all option_form ps;
-  known = o.known && all is_known ps;
-  require_tls = on_tally o.require_tls is_require_tls ps;
-  size = on_tally o.size is_size ps;
-  ret = on_tally o.ret is_ret ps;
+fold_parts : (o : Options) (ps : List (List ℕ)) → fold seen o ps ≡ record {
+  formed = all_on option_form o.formed ps;
+  known = all_on is_known o.known ps;
+  require_tls = count_on is_require_tls o.require_tls ps;
+  size = count_on is_size o.size ps;
+  ret = count_on is_ret o.ret ps;
 }
+fold_parts o [] = refl
+fold_parts o (p ∷ ps) = fold_parts (seen o p) ps
 
-and_assoc : (a b c : Bool) → ((a && b) && c) ≡ (a && (b && c))
-and_assoc true b c = refl
-and_assoc false b c = refl
+all_more : (test : List ℕ → Bool) (b : Bool) (ps : List (List ℕ)) → all_on test b ps ≡ (b && all test ps)
+all_more test true [] = refl
+all_more test false [] = refl
+all_more test true (p ∷ ps) = all_more test (test p) ps
+all_more test false (p ∷ ps) = all_more test false ps
 
-and_true : (a : Bool) → a ≡ (a && true)
-and_true true = refl
-and_true false = refl
+count_repeated : (test : List ℕ → Bool) (ps : List (List ℕ)) → count_on test Repeated ps ≡ Repeated
+count_repeated test [] = refl
+count_repeated test (p ∷ ps) = elim (test p) as (λ b. count_on test (counted Repeated b) ps ≡ Repeated) [ true ↦ count_repeated test ps | false ↦ count_repeated test ps ]
 
-or_false : (a : Bool) → a ≡ (a || false)
-or_false true = refl
-or_false false = refl
+count_once : (test : List ℕ → Bool) (ps : List (List ℕ)) → count_on test Once ps ≡ cond (some test ps) Repeated Once
+count_once test [] = refl
+count_once test (p ∷ ps) =
+    elim (test p) as (λ b. count_on test (counted Once b) ps ≡ cond (b || some test ps) Repeated Once) [ true ↦ count_repeated test ps | false ↦ count_once test ps ]
 
-twice_none : (o w : Bool) → w ≡ (w || ((o && false) || false))
-twice_none true true = refl
-twice_none true false = refl
-twice_none false true = refl
-twice_none false false = refl
+-- where two pass, one does
+one_of_two : (test : List ℕ → Bool) (ps : List (List ℕ)) → (some test ps || twice test ps) ≡ some test ps
+one_of_two test [] = refl
+one_of_two test (p ∷ ps) =
+    elim (test p) as (λ b. ((b || some test ps) || ((b && some test ps) || twice test ps)) ≡ (b || some test ps)) [ true ↦ refl | false ↦ one_of_two test ps ]
 
-tally_none : (t : Tally) (test : List ℕ → Bool) → t ≡ on_tally t test []
-tally_none t test =
-    let e = or_false t.once in
-    let f = twice_none t.once t.twice in
-    λ i. record { once = e i; twice = f i }
+count_is : (test : List ℕ → Bool) (ps : List (List ℕ)) → count_on test Never ps ≡ count_of test ps
+count_is test [] = refl
+count_is test (p ∷ ps) =
+    elim (test p) as (λ b. count_on test (counted Never b) ps ≡ cond ((b && some test ps) || twice test ps) Repeated (cond (b || some test ps) Once Never)) [
+      | true ↦ count_once test ps ∙ ap (λ b. cond b Repeated Once) (sym (one_of_two test ps))
+      | false ↦ count_is test ps
+    ]
 
-over_is : (o : Options) (ps : List (List ℕ)) → over o ps ≡ on_options o ps
-over_is o [] =
-    let a = and_true o.formed in
-    let b = and_true o.known in
-    let d = tally_none o.require_tls is_require_tls in
-    let e = tally_none o.size is_size in
-    let f = tally_none o.ret is_ret in
-    λ i. record { formed = a i; known = b i; require_tls = d i; size = e i; ret = f i }
-over_is o (p ∷ ps) =
-    let i = over_is (seen o p) ps in
-    let a = and_assoc o.formed (option_form p) (all option_form ps) in
-    let b = and_assoc o.known (is_known p) (all is_known ps) in
-    let d = tally_more o.require_tls is_require_tls p ps in
-    let e = tally_more o.size is_size p ps in
-    let f = tally_more o.ret is_ret p ps in
-    cc
+-- what the count says: whether one or more pass, and whether two or more do
+pub seen_is : (test : List ℕ → Bool) (ps : List (List ℕ)) → is_seen (count_of test ps) ≡ some test ps
+seen_is test ps = by (some test ps) (twice test ps) ∙ one_of_two test ps
+  where
+    by : (s t : Bool) → is_seen (cond t Repeated (cond s Once Never)) ≡ (s || t)
+    by true true = refl
+    by true false = refl
+    by false true = refl
+    by false false = refl
+
+pub repeated_is : (test : List ℕ → Bool) (ps : List (List ℕ)) → is_repeated (count_of test ps) ≡ twice test ps
+repeated_is test ps = by (some test ps) (twice test ps)
+  where
+    by : (s t : Bool) → is_repeated (cond t Repeated (cond s Once Never)) ≡ t
+    by true true = refl
+    by true false = refl
+    by false true = refl
+    by false false = refl
 
 -- the options behind a path, seen one after the other
-pub over_options : (tail : List ℕ) → over (none_seen (eqb (length (first_part 32 tail)) 0)) (other_parts 32 tail) ≡ options_in tail
-over_options tail = over_is (none_seen (eqb (length (first_part 32 tail)) 0)) (other_parts 32 tail)
+fold_options : (tail : List ℕ) → fold seen (none_seen (eqb (length (first_part 32 tail)) 0)) (other_parts 32 tail) ≡ options_in tail
+fold_options tail =
+    let formed = eqb (length (first_part 32 tail)) 0 in
+    let ps = other_parts 32 tail in
+    let a = all_more option_form formed ps in
+    let b = all_more is_known true ps in
+    let d = count_is is_require_tls ps in
+    let e = count_is is_size ps in
+    let f = count_is is_ret ps in
+    fold_parts (none_seen formed) ps ∙ (λ i. record { formed = a i; known = b i; require_tls = d i; size = e i; ret = f i })
 
--- what stands from the first separator on begins with it, and has the same parts behind it
-pub first_empty : (sep : ℕ) (s : List ℕ) → length (first_part sep (from_first sep s)) ≡ 0
-first_empty sep [] = refl
-first_empty sep (x ∷ s) = let e = first_empty sep s in grind (arith, nat_tests)
+-- a text taken apart at its blanks
+split_parts : (tail : List ℕ) → slice_split (λ b. eqb b 32) tail ≡ first_part 32 tail ∷ other_parts 32 tail
+split_parts [] = refl
+split_parts (x ∷ s) =
+    let e = ap (λ ps. cond (eqb x 32) ([] ∷ ps) (onto_first x ps)) (split_parts s) in
+    e ∙ elim (eqb x 32) as (λ b. cond b ([] ∷ first_part 32 s ∷ other_parts 32 s) ((x ∷ first_part 32 s) ∷ other_parts 32 s) ≡ cond b [] (x ∷ first_part 32 s) ∷ cond b (first_part 32 s ∷ other_parts 32 s) (other_parts 32 s)) [ true ↦ refl | false ↦ refl ]
 
-pub others_from : (sep : ℕ) (s : List ℕ) → other_parts sep (from_first sep s) ≡ other_parts sep s
-others_from sep [] = refl
-others_from sep (x ∷ s) = let e = others_from sep s in grind (arith, nat_tests)
-
--- the part behind a separator, and the others
-pub others_more : (sep : ℕ) (s : List ℕ) → 0 < length s → length (first_part sep s) ≡ 0 → other_parts sep s ≡ first_part sep (drop 1 s) ∷ other_parts sep (drop 1 s)
-others_more sep [] h e = absurd (omega arith)
-others_more sep (x ∷ s) h e = grind (arith, nat_tests)
-
--- one option more, and what is behind it
-pub over_more : (o p-seen w : Options) (rest p rest' : List ℕ) → 0 < length rest → length (first_part 32 rest) ≡ 0 → p ≡ first_part 32 (drop 1 rest) → rest' ≡ from_first 32 (drop 1 rest) →
-    p-seen ≡ seen o p → over o (other_parts 32 rest) ≡ w → over p-seen (other_parts 32 rest') ≡ w
-over_more o p-seen w rest p rest' h f e d s i =
-    let m = others_more 32 rest h f in
-    let g = ap (other_parts 32) d ∙ others_from 32 (drop 1 rest) in
-    cc
-
--- no option is left
-pub over_end : (o : Options) (rest tail : List ℕ) → length rest ≡ 0 →
-    over o (other_parts 32 rest) ≡ over (none_seen (eqb (length (first_part 32 tail)) 0)) (other_parts 32 tail) → o ≡ options_in tail
-over_end o [] tail h e = e ∙ over_options tail
-over_end o (x ∷ rest) tail h e = absurd (omega arith)
+-- the first part taken by a call of its own, and the options among the others
+pub read_is : {S : Type 0} {steps : S → Option (Bor (List ℕ)) → S → Type 0} {s : S} (tail : List ℕ) (r : Option (Bor (List ℕ))) (t : S) (formed : Bool) (options : Options) → steps s r t →
+    YieldsList steps (λ x. x.now) s (slice_split (λ b. eqb b 32) tail) → MatchOption r (formed ≡ false) (λ x. formed ≡ eqb (length x.now) 0) →
+    (YieldsList steps (λ x. x.now) t (other_parts 32 tail) → options ≡ fold seen (none_seen formed) (other_parts 32 tail)) → options ≡ options_in tail
+read_is tail r t formed options k y f h =
+    let (x, e, g, others) = next_is r t k y (split_parts tail) in
+    let i : formed ≡ eqb (length (first_part 32 tail)) 0 = subst (λ r. MatchOption r (formed ≡ false) (λ x. formed ≡ eqb (length x.now) 0)) e f ∙ ap (λ p. eqb (length p) 0) g in
+    h others ∙ ap (λ b. fold seen (none_seen b) (other_parts 32 tail)) i ∙ fold_options tail

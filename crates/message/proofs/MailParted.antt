@@ -1,28 +1,15 @@
 -- A MAIL line taken apart step by step.
-use Rattle.std.proofs.Common.{◌≡◌, ℕ, ◌+◌, ◌-◌, ◌<◌, ◌≤◌, Bool, true, false, cond, ◌&&◌, eqb, ltb, List, [], ◌∷◌, length, get_or, take, drop, Some, None, refl, ap, ◌∙◌, inl, inr, arith}
+use Rattle.std.proofs.Common.{◌≡◌, ℕ, ◌+◌, ◌-◌, ◌<◌, Bool, true, false, cond, not, ◌&&◌, eqb, ltb, List, [], ◌∷◌, length, take, drop, Option, Some, None, sym, refl, ap, ◌∙◌, arith, length-take}
 use Rattle.std.proofs.lemmas.Bool.Decides.{nat_tests}
-use Rattle.std.proofs.lemmas.List.{get_or-drop}
-use Rattle.std.proofs.lemmas.Bool.{cases_lt}
+use Rattle.std.proofs.lemmas.Bool.{true≢false, and_parts}
+use Rattle.std.specs.List.{position_or_len}
+use Rattle.std.specs.Cmp.Lexicographic.{pointwise}
 use Rattle.smtp.specs.Bytes.{same}
 use Rattle.smtp.specs.Parts.{first_part, behind_first}
 use Rattle.smtp.specs.Replies.{crlf_first}
 use Rattle.smtp.proofs.Parted.{part_len, take_first, drop_behind}
 use Rattle.message.specs.MailLines.{mail_from, inner, path_of, tail_of, ends}
-use Rattle.message.specs.MailParts.{body_of, command_of}
-
--- CRLF at the end, by the last two bytes
-at_last : (s : List ℕ) → 2 ≤ length s → crlf_first (drop (length s - 2) s) ≡ (eqb (get_or s (length s - 2) 0) 13 && eqb (get_or s (length s - 1) 0) 10)
-at_last s h =
-    let a = get_or-drop (length s - 2) s 0 0 in
-    let b = get_or-drop (length s - 2) s 1 0 in
-    let d : length s - 2 + 0 ≡ length s - 2 = omega arith in
-    let e : length s - 2 + 1 ≡ length s - 1 = omega arith in
-    cc
-
-short : (s : List ℕ) → length s < 2 → crlf_first (drop (length s - 2) s) ≡ false
-short [] h = refl
-short (x ∷ []) h = grind (arith, nat_tests)
-short (x ∷ (y ∷ s)) h = absurd (omega arith)
+use Rattle.message.specs.MailParts.{command_of}
 
 -- a value that is there where a test says so
 pub some_cond : {A : Type 0} (b : Bool) (x y : A) → Some y ≡ cond b (Some x) None → (b ≡ true) × (y ≡ x)
@@ -33,40 +20,60 @@ none_cond : {A : Type 0} (b : Bool) (x : A) → b ≡ false → None ≡ cond b 
 none_cond true x e = absurd (let z : ◌≡◌ {A = ℕ} 0 1 = cc in omega arith)
 none_cond false x e = refl
 
-pub crlf_last : (s : List ℕ) → 2 ≤ length s → get_or s (length s - 2) 0 ≡ 13 → get_or s (length s - 1) 0 ≡ 10 → Some (take (length s - 2) s) ≡ body_of s
-crlf_last s h a b = let e = at_last s h in let f : crlf_first (drop (length s - 2) s) ≡ true = grind (arith, nat_tests) in simp f
+-- a value that is missing where a test fails
+pub none_test : {A : Type 0} (b : Bool) (x : A) → None ≡ cond b (Some x) None → b ≡ false
+none_test true x e = absurd (let z : ◌≡◌ {A = ℕ} 0 1 = cc in omega arith)
+none_test false x e = refl
 
-pub no_crlf : (s : List ℕ) → (2 ≤ length s → get_or s (length s - 2) 0 ≡ 13 → get_or s (length s - 1) 0 ≡ 10 → ⊥) → None ≡ body_of s
-no_crlf s n = none_cond _ _ (elim (cases_lt (length s) 2) [
-  | inl h ↦ short s h
-  | inr h ↦ let e = at_last s h in let f = n h in grind (arith, nat_tests)
-])
+is_false : (b : Bool) → (b ≡ true → ⊥) → b ≡ false
+is_false true h = absurd (h refl)
+is_false false h = refl
 
--- the first words are missing
-pub no_words : (line body : List ℕ) → Some body ≡ body_of line → same (take 11 body) mail_from ≡ false → None ≡ command_of line
-no_words line body e f =
-    let (b, d) = some_cond (crlf_first (drop (length line - 2) line)) (take (length line - 2) line) body e in
-    let g = ap (λ (t : List ℕ). same (take 11 t) mail_from) d in
+and_false : (a b : Bool) → b ≡ false → (a && b) ≡ false
+and_false true b e = e
+and_false false b e = refl
+
+same_length : (a b : List ℕ) → same a b ≡ true → length a ≡ length b
+same_length [] [] e = refl
+same_length [] (y ∷ b) e = absurd (true≢false (sym e))
+same_length (x ∷ a) [] e = absurd (true≢false (sym e))
+same_length (x ∷ a) (y ∷ b) e = let i = same_length a b (and_parts _ _ e).1 in omega arith
+
+crlf_alone : (s : List ℕ) → pointwise eqb s (13 ∷ 10 ∷ []) ≡ true → crlf_first s ≡ true
+crlf_alone [] e = absurd (true≢false (sym e))
+crlf_alone (x ∷ []) e = grind (arith, nat_tests)
+crlf_alone (x ∷ (y ∷ s)) e = grind (arith, nat_tests)
+
+-- where the first `>` stands, or the end
+close_at : (s : List ℕ) → position_or_len (λ b. eqb b 62) s ≡ part_len 62 s
+close_at [] = refl
+close_at (x ∷ s) = let e = close_at s in elim (eqb x 62) as (λ b. cond (not b) (1 + position_or_len (λ b. eqb b 62) s) 0 ≡ length (cond b [] (x ∷ first_part 62 s))) [ true ↦ refl | false ↦ omega arith ]
+
+-- the line is too short for its first words
+pub short_body : (line body : List ℕ) → body ≡ take (length line - 2) line → length body < 11 → None ≡ command_of line
+short_body line body e h =
+    let f = is_false (same (take 11 (take (length line - 2) line)) mail_from) (λ s. let l = same_length (take 11 (take (length line - 2) line)) mail_from s in let k = ap length e in omega (arith, length-take 11 (take (length line - 2) line))) in
     none_cond _ _ (grind (arith, nat_tests))
 
 -- no `>` stands behind the path
-pub no_close : (line body mid : List ℕ) (n : ℕ) → Some body ≡ body_of line → mid ≡ drop 11 body → n ≡ part_len 62 mid → n ≡ length mid → None ≡ command_of line
-no_close line body mid n e f g h =
-    let (b, d) = some_cond (crlf_first (drop (length line - 2) line)) (take (length line - 2) line) body e in
-    let i : mid ≡ inner line = f ∙ ap (drop 11) d in
-    let j = ap (part_len 62) i in
-    let k = ap length i in
-    none_cond _ _ (grind (arith, nat_tests))
+pub no_close : (line body mid : List ℕ) (r : Option ℕ) → body ≡ take (length line - 2) line → mid ≡ drop 11 body → r ≡ None →
+    (let n = position_or_len (λ b. eqb b 62) mid in r ≡ cond (ltb n (length mid)) (Some n) None) → None ≡ command_of line
+no_close line body mid r e f g h =
+    let i : mid ≡ inner line = f ∙ ap (drop 11) e in
+    let t = none_test (ltb (position_or_len (λ b. eqb b 62) mid) (length mid)) (position_or_len (λ b. eqb b 62) mid) (sym g ∙ h) in
+    none_cond _ _ (and_false (ends line) _ (sym (λ j. ltb ((close_at mid ∙ ap (part_len 62) i) j) (length (i j))) ∙ t))
 
-pub command_is : (line body mid path tail : List ℕ) (n : ℕ) → Some body ≡ body_of line → same (take 11 body) mail_from ≡ true → mid ≡ drop 11 body → n ≡ part_len 62 mid → n ≤ length mid →
-    (n ≡ length mid → ⊥) → path ≡ take n mid → tail ≡ drop (n + 1) mid → Some (path, tail) ≡ command_of line
-command_is line body mid path tail n e w f g k h p t =
-    let (b, d) = some_cond (crlf_first (drop (length line - 2) line)) (take (length line - 2) line) body e in
-    let i : mid ≡ inner line = f ∙ ap (drop 11) d in
-    let j = ap (part_len 62) i in
-    let l = ap length i in
-    let v = ap (λ (t : List ℕ). same (take 11 t) mail_from) d in
-    let q : path ≡ path_of line = p ∙ simp g (take_first 62 mid) ∙ ap (first_part 62) i in
-    let r : tail ≡ tail_of line = t ∙ simp g (drop_behind 62 mid) ∙ ap (behind_first 62) i in
+pub command_is : (line body words mid path tail : List ℕ) (r : Option ℕ) (n : ℕ) → pointwise eqb (drop (length line - 2) line) (13 ∷ 10 ∷ []) ≡ true → body ≡ take (length line - 2) line → words ≡ take 11 body →
+    same words mail_from ≡ true → mid ≡ drop 11 body → r ≡ Some n → (let n = position_or_len (λ b. eqb b 62) mid in r ≡ cond (ltb n (length mid)) (Some n) None) →
+    path ≡ take n mid → tail ≡ drop (n + 1) mid → Some (path, tail) ≡ command_of line
+command_is line body words mid path tail r n k e w v f g h p t =
+    let i : mid ≡ inner line = f ∙ ap (drop 11) e in
+    let (b, d) = some_cond (ltb (position_or_len (λ b. eqb b 62) mid) (length mid)) (position_or_len (λ b. eqb b 62) mid) n (sym g ∙ h) in
+    let m : n ≡ part_len 62 mid = d ∙ close_at mid in
+    let q : path ≡ path_of line = p ∙ simp m (take_first 62 mid) ∙ ap (first_part 62) i in
+    let z : tail ≡ tail_of line = t ∙ simp m (drop_behind 62 mid) ∙ ap (behind_first 62) i in
+    let l : ltb (length (path_of line)) (length (inner line)) ≡ true = sym (λ j. ltb ((close_at mid ∙ ap (part_len 62) i) j) (length (i j))) ∙ b in
+    let u = crlf_alone (drop (length line - 2) line) k in
+    let x : same (take 11 (take (length line - 2) line)) mail_from ≡ true = ap (λ s. same s mail_from) (sym (w ∙ ap (take 11) e)) ∙ v in
     let o : (ends line && ltb (length (path_of line)) (length (inner line))) ≡ true = grind (arith, nat_tests) in
-    rw o (λ x. Some (q x, r x))
+    rw o (λ j. Some (q j, z j))

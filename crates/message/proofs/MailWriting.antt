@@ -1,14 +1,13 @@
 -- A MAIL line written part by part into a buffer.
-use Rattle.std.proofs.Common.{◌≡◌, ℕ, suc, ◌+◌, ◌≤◌, Bool, true, false, cond, not, ◌&&◌, eqb, ltb, leb, List, [], ◌∷◌, ◌++◌, length, Ok, Err, sym, refl, ap, ◌∙◌, inl, inr, arith}
-use lib.Seq.{paste}
+use Rattle.std.proofs.Common.{◌≡◌, ℕ, suc, ◌+◌, ◌≤◌, Bool, true, false, cond, not, ◌&&◌, eqb, ltb, leb, List, [], ◌∷◌, ◌++◌, length, Ok, Err, sym, ap, ◌∙◌, inl, inr, arith}
 use Rattle.std.proofs.lemmas.Bool.Decides.{nat_tests}
 use Rattle.std.proofs.lemmas.Bool.{true≢false, and_parts, leb-true, eqb-true, or_cases, le-ltb, le-leb}
-use Rattle.std.proofs.lemmas.List.{length-append, append_assoc}
-use Rattle.std.proofs.lemmas.List.Edits.{paste-paste, paste_all}
+use Rattle.std.proofs.lemmas.List.{append_assoc}
 use Rattle.smtp.specs.declared.refusal.Refusal.TheVariants.{BadAddress, ShortBuffer}
 use Rattle.smtp.specs.Parts.{first_part, behind_first}
 use Rattle.smtp.specs.Names.{atom_byte, label_byte, dotted, host_name, address}
 use Rattle.message.specs.MailLines.{mail_from, path_form, ending, written, writing, at_front, buffer_after}
+use Rattle.message.specs.Writing.{Written}
 
 -- a text by its first part and what is behind it
 split_length : (sep : ℕ) (s : List ℕ) → length s ≤ length (first_part sep s) + suc (length (behind_first sep s))
@@ -36,26 +35,6 @@ pub ending_length : (require_tls : Bool) → length (ending require_tls) ≤ 14
 ending_length true = omega arith
 ending_length false = omega arith
 
--- three parts, put one behind the other at the front
-three_parts : (old a b d : List ℕ) (m n : ℕ) → m ≡ length a → n ≡ m + length b →
-    paste (paste (paste old 0 a m) m b (length b)) n d (length d) ≡ at_front (a ++ (b ++ d)) old
-three_parts old a b d m n e f =
-    let g = paste-paste old 0 a b m (length b) e refl (omega arith) in
-    let h = paste-paste old 0 (a ++ b) d (m + length b) (length d) (rw length-append (omega arith)) refl (omega arith) in
-    let i = paste_all old 0 ((a ++ b) ++ d) (m + length b + length d) (rw (length-append, length-append) (omega arith)) in
-    let j : 0 + m ≡ m = omega arith in
-    let k : 0 + (m + length b) ≡ n = omega arith in
-    let l : 0 + (m + length b + length d) ≡ length (a ++ (b ++ d)) = rw (length-append, length-append) (omega arith) in
-    let o = append_assoc a b d in
-    cc
-
--- the buffer and the place behind them, step by step
-parts_put : (old a b d one two three : List ℕ) (k l m n : ℕ) → k ≡ length a → one ≡ paste old 0 a k → l ≡ k → two ≡ paste one l b (length b) → m ≡ l + length b →
-    three ≡ paste two m d (length d) → n ≡ m + length d → (n ≡ length (a ++ (b ++ d))) × (three ≡ at_front (a ++ (b ++ d)) old)
-parts_put old a b d one two three k l m n z e f g h i j =
-    let o = three_parts old a b d l m (omega arith) h in
-    (rw (length-append, length-append) (omega arith), cc)
-
 -- an accepted line, by the tests of its path and of the room
 pub accepted : (line : List ℕ) (t f : Bool) (n : ℕ) → t ≡ true → f ≡ false → n ≡ length line →
     Ok n ≡ cond (not t) (Err BadAddress) (cond f (Err ShortBuffer) (Ok (length line)))
@@ -68,12 +47,12 @@ filled true true x y z p q e = e
 filled true false x y z p q e = absurd (true≢false (sym q))
 filled false f x y z p q e = absurd (true≢false (sym p))
 
-pub write_is : (old path one two three en : List ℕ) (require_tls : Bool) (l m n : ℕ) → path_form path ≡ true → 523 ≤ length old → en ≡ ending require_tls →
-    one ≡ paste old 0 mail_from 11 → l ≡ 11 → two ≡ paste one l path (length path) → m ≡ l + length path → three ≡ paste two m en (length en) → n ≡ m + length en →
-    record { answer : Ok n ≡ writing path require_tls (length old); buffer : three ≡ buffer_after path require_tls old }
-write_is old path one two three en require_tls l m n p h e a b c d f g =
-    let (i, j) = parts_put old mail_from path en one two three 11 l m n refl a b c d f g in
+-- a line that is written in three parts
+pub write_is : (path en out lent : List ℕ) (require_tls : Bool) (n : ℕ) → path_form path ≡ true → 523 ≤ length lent → en ≡ ending require_tls → Written n out (mail_from ++ path ++ en) lent →
+    record { answer : Ok n ≡ writing path require_tls (length lent); buffer : out ≡ buffer_after path require_tls lent }
+write_is path en out lent require_tls n p h e (i, j) =
+    let f : mail_from ++ path ++ en ≡ written path require_tls = append_assoc mail_from path en ∙ ap (λ t. mail_from ++ (path ++ t)) e in
     record {
-      answer = accepted (written path require_tls) (path_form path) (ltb (length old) 523) n p (le-ltb (length old) 523 h) (i ∙ ap (λ (t : List ℕ). length (mail_from ++ (path ++ t))) e);
-      buffer = filled (path_form path) (leb 523 (length old)) three (at_front (written path require_tls) old) old p (le-leb 523 (length old) h) (j ∙ ap (λ (t : List ℕ). at_front (mail_from ++ (path ++ t)) old) e);
+      answer = accepted (written path require_tls) (path_form path) (ltb (length lent) 523) n p (le-ltb (length lent) 523 h) (i ∙ ap length f);
+      buffer = filled (path_form path) (leb 523 (length lent)) out (at_front (written path require_tls) lent) lent p (le-leb 523 (length lent) h) (j ∙ ap (λ t. at_front t lent) f);
     }

@@ -1,185 +1,97 @@
--- Dot-stuffing byte by byte, and how it is laid into a buffer.
-use Rattle.std.proofs.Common.{◌≡◌, ℕ, suc, ◌+◌, ◌<◌, ◌≤◌, Bool, true, false, cond, ◌&&◌, eqb, ◌⊎◌, List, [], ◌∷◌, ◌++◌, length, get_or, take, drop, set, sym, refl, ap, ◌∙◌, subst, inl, inr, arith, length-drop, length-take}
+-- Dot-stuffing line by line: its length, and how it is written part by part.
+use Rattle.std.proofs.Common.{◌≡◌, ℕ, suc, ◌+◌, ◌*◌, ◌≤◌, Bool, true, false, cond, eqb, filter, List, [], ◌∷◌, ◌++◌, length, drop, sym, refl, ap, ◌∙◌, arith}
 use Rattle.std.proofs.lemmas.Bool.Decides.{nat_tests}
-use Rattle.std.proofs.lemmas.List.{at_drop_more, at_drop_all, drop_more, take_more, take_all, set_at, append_assoc}
+use Rattle.std.proofs.lemmas.List.{append_assoc, length-append}
 use Rattle.message.specs.Lines.{longer, lines_of, joined}
-use Rattle.message.specs.Stuffing.{stuffed_lines, dot_starts, dot_line, stuffed, stuffed_len}
-use Rattle.message.proofs.Lined.{rest_of, rest_longer}
+use Rattle.message.specs.MailLines.{at_front}
+use Rattle.message.specs.Stuffing.{dot_first, stuffed_lines, dot_starts, dot_line, stuffed, stuffed_len}
+use Rattle.message.specs.Writing.{Written}
+use Rattle.message.proofs.Lined.{rest_of, rest_longer, joined_lines}
 
--- how many lines begin with a dot, at a line's start or behind it
-abbrev pub dots_from : Bool → List ℕ → ℕ
-dots_from start [] = 0
-dots_from start (x ∷ s) = cond (start && eqb x 46) (suc (dots_from (eqb x 10) s)) (dots_from (eqb x 10) s)
+-- the lines that begin with a dot
+pub dots_are : (ls : List (List ℕ)) → length (filter dot_first ls) ≡ dot_starts ls
+dots_are [] = refl
+dots_are (l ∷ ls) =
+    let e = dots_are ls in
+    elim (dot_first l) as (λ b. length (cond b (l ∷ filter dot_first ls) (filter dot_first ls)) ≡ cond b (suc (dot_starts ls)) (dot_starts ls)) [ true ↦ ap suc e | false ↦ e ]
 
 dots_longer : (x : ℕ) (ls : List (List ℕ)) → dot_starts (longer x ls) ≡ cond (eqb x 46) (suc (dot_starts (rest_of ls))) (dot_starts (rest_of ls))
 dots_longer x [] = refl
 dots_longer x (l ∷ ls) = refl
 
-dots_both : (s : List ℕ) → (dots_from true s ≡ dot_starts (lines_of s)) × (dots_from false s ≡ dot_starts (rest_of (lines_of s)))
-dots_both [] = (refl, refl)
+-- a line that begins with a dot has two bytes or more, but for the last
+dots_both : (s : List ℕ) → (2 * dot_starts (lines_of s) ≤ length s + 1) × (2 * dot_starts (rest_of (lines_of s)) ≤ length s)
+dots_both [] = (omega arith, omega arith)
 dots_both (x ∷ s) =
     let (a, b) = dots_both s in
     let e = dots_longer x (lines_of s) in
     let f = rest_longer x (lines_of s) in
     (grind (arith, nat_tests), grind (arith, nat_tests))
 
-pub dots_from_holds : (s : List ℕ) → dots_from true s ≡ dot_starts (lines_of s)
-dots_from_holds s = (dots_both s).0
+pub dots_most : (s : List ℕ) → 2 * dot_starts (lines_of s) ≤ length s + 1
+dots_most s = (dots_both s).0
 
-pub dots_more : (start : Bool) (s : List ℕ) (i : ℕ) → i < length s →
-    dots_from start (drop i s) ≡ cond (start && eqb (get_or s i 0) 46) (suc (dots_from (eqb (get_or s i 0) 10) (drop (i + 1) s))) (dots_from (eqb (get_or s i 0) 10) (drop (i + 1) s))
-dots_more start s i h = at_drop_more (dots_from start) s i 0 h
+-- a line as it is written
+abbrev doubled : List ℕ → List ℕ
+doubled l = cond (dot_first l) (46 ∷ l) l
 
-pub dots_all : (start : Bool) (s : List ℕ) (i : ℕ) → length s ≤ i → dots_from start (drop i s) ≡ 0
-dots_all start s i h = at_drop_all (dots_from start) s i h
+length_doubled : (l : List ℕ) (n : ℕ) → length (doubled l) + n ≡ length l + cond (dot_first l) (suc n) n
+length_doubled l n = elim (dot_first l) as (λ b. length (cond b (46 ∷ l) l) + n ≡ length l + cond b (suc n) n) [ true ↦ omega arith | false ↦ refl ]
 
--- the stuffed content, with its dot line, at a line's start or behind it
-abbrev pub stuff_from : Bool → List ℕ → List ℕ
-stuff_from start [] = dot_line
-stuff_from start (x ∷ s) = cond (start && eqb x 46) (46 ∷ x ∷ stuff_from (eqb x 10) s) (x ∷ stuff_from (eqb x 10) s)
-
--- the first line as it is, the others stuffed
-abbrev behind : List (List ℕ) → List ℕ
-behind [] = []
-behind (l ∷ ls) = l ++ joined (stuffed_lines ls)
-
-dotted_longer : (x : ℕ) (ls : List (List ℕ)) → joined (stuffed_lines (longer x ls)) ≡ cond (eqb x 46) (46 ∷ x ∷ behind ls) (x ∷ behind ls)
-dotted_longer x [] = grind (arith, nat_tests)
-dotted_longer x (l ∷ ls) = grind (arith, nat_tests)
-
-behind_longer : (x : ℕ) (ls : List (List ℕ)) → behind (longer x ls) ≡ x ∷ behind ls
-behind_longer x [] = refl
-behind_longer x (l ∷ ls) = refl
-
-stuff_both : (s : List ℕ) → (stuff_from true s ≡ joined (stuffed_lines (lines_of s)) ++ dot_line) × (stuff_from false s ≡ behind (lines_of s) ++ dot_line)
-stuff_both [] = (refl, refl)
-stuff_both (x ∷ s) =
-    let (a, b) = stuff_both s in
-    let e = dotted_longer x (lines_of s) in
-    let f = behind_longer x (lines_of s) in
-    (grind (arith, nat_tests), grind (arith, nat_tests))
-
-pub stuff_from_holds : (s : List ℕ) → stuff_from true s ≡ stuffed s
-stuff_from_holds s = (stuff_both s).0
-
-length_from : (start : Bool) (s : List ℕ) → length (stuff_from start s) ≡ length s + dots_from start s + 3
-length_from start [] = refl
-length_from start (x ∷ s) = let e = length_from (eqb x 10) s in grind (arith, nat_tests)
+length_lines : (ls : List (List ℕ)) → length (joined (stuffed_lines ls)) ≡ length (joined ls) + dot_starts ls
+length_lines [] = refl
+length_lines (l ∷ ls) =
+    let e = length_lines ls in
+    let f = length_doubled l (dot_starts ls) in
+    omega (arith, length-append (doubled l) (joined (stuffed_lines ls)), length-append l (joined ls))
 
 -- the law of the length
 pub stuffed_length : (s : List ℕ) → length (stuffed s) ≡ stuffed_len s
-stuffed_length s = let a = ap length (stuff_from_holds s) in let b = length_from true s in let d = dots_from_holds s in omega arith
+stuffed_length s =
+    let e = length_lines (lines_of s) in
+    let f = ap length (joined_lines s) in
+    omega (arith, length-append (joined (stuffed_lines (lines_of s))) dot_line)
 
-pub stuff_more : (start : Bool) (s : List ℕ) (i : ℕ) → i < length s →
-    stuff_from start (drop i s) ≡ cond (start && eqb (get_or s i 0) 46) (46 ∷ get_or s i 0 ∷ stuff_from (eqb (get_or s i 0) 10) (drop (i + 1) s)) (get_or s i 0 ∷ stuff_from (eqb (get_or s i 0) 10) (drop (i + 1) s))
-stuff_more start s i h = at_drop_more (stuff_from start) s i 0 h
+-- a first line, and what is stuffed behind it
+stuffed_more : (s l t : List ℕ) → lines_of s ≡ l ∷ lines_of t → stuffed s ≡ doubled l ++ stuffed t
+stuffed_more s l t e = ap (λ ls. joined (stuffed_lines ls) ++ dot_line) e ∙ append_assoc (doubled l) (joined (stuffed_lines (lines_of t))) dot_line
 
-pub stuff_all : (start : Bool) (s : List ℕ) (i : ℕ) → length s ≤ i → stuff_from start (drop i s) ≡ dot_line
-stuff_all start s i h = at_drop_all (stuff_from start) s i h
-
--- the first n bytes of d are laid over the front of o, and the rest r of d is still to come
-abbrev pub Laid : List ℕ → List ℕ → ℕ → List ℕ → List ℕ → Type 0
-Laid d o n out r = (n ≤ length d) × (out ≡ take n d ++ drop n o) × (drop n d ≡ r)
-
-pub laid_none : (d o : List ℕ) → Laid d o 0 o d
-laid_none d o = (omega arith, refl, refl)
+-- so much of the content is written that its lines from `rest` on, and the dot line, are still to come
+abbrev pub Comes : List ℕ → List ℕ → ℕ → List ℕ → List ℕ → Type 0
+Comes content lent len out rest = (done : List ℕ) × (stuffed content ≡ done ++ stuffed rest) × Written len out done lent
 
 -- what is still to come has room
-pub laid_below : (d o : List ℕ) (n b : ℕ) (out r : List ℕ) → length d ≤ length o → Laid d o n out (b ∷ r) → n < length d
-laid_below d o n b out r h (g, e, f) = let l = length-drop n d in let k = ap length f in omega arith
+coming : (content lent : List ℕ) (len : ℕ) (out rest : List ℕ) → stuffed_len content ≤ length lent → Comes content lent len out rest → len + stuffed_len rest ≤ length lent
+coming content lent len out rest h (done, e, w) =
+    let a = ap length e in
+    let b = stuffed_length content in
+    let d = stuffed_length rest in
+    let f = w.0 in
+    omega (arith, length-append done (stuffed rest))
 
-set_next : (p o : List ℕ) (n b : ℕ) → length p ≡ n → n < length o → set (p ++ drop n o) n b ≡ (p ++ b ∷ []) ++ drop (n + 1) o
-set_next p o n b e h =
-    ap (λ (t : List ℕ). set (p ++ t) n b) (drop_more o n 0 h) ∙ (set_at p (get_or o n 0) (drop (n + 1) o) b n e ∙ sym (append_assoc p (b ∷ []) (drop (n + 1) o)))
+one_more : (l : List ℕ) (dot : Bool) → cond dot 1 0 + length l ≡ length (cond dot (46 ∷ l) l)
+one_more l true = omega arith
+one_more l false = omega arith
 
--- one byte more
-pub laid_more : (d o : List ℕ) (n b : ℕ) (out r : List ℕ) → length d ≤ length o → Laid d o n out (b ∷ r) → Laid d o (n + 1) (set out n b) r
-laid_more d o n b out r h (g, e, f) =
-    let p = laid_below d o n b out r h (g, e, f) in
-    let q = drop_more d n 0 p in
-    let x : get_or d n 0 ≡ b = cc in
-    let y : drop (n + 1) d ≡ r = cc in
-    let t : length (take n d) ≡ n = simp length-take (omega arith) in
-    let z = set_next (take n d) o n b t (omega arith) in
-    let w = take_more d n 0 p in
-    (omega arith, cc, y)
+pub line_room : (content lent : List ℕ) (len : ℕ) (out rest l t : List ℕ) (dot : Bool) → stuffed_len content ≤ length lent → Comes content lent len out rest → lines_of rest ≡ l ∷ lines_of t → dot ≡ dot_first l →
+    len + cond dot 1 0 + length l ≤ length lent
+line_room content lent len out rest l t dot h k e d =
+    let a = coming content lent len out rest h k in
+    let b = ap length (stuffed_more rest l t e) in
+    let f = stuffed_length rest in
+    let g : cond dot 1 0 + length l ≡ length (doubled l) = one_more l dot ∙ ap (λ b. length (cond b (46 ∷ l) l)) d in
+    omega (arith, length-append (doubled l) (stuffed t))
 
-pub laid_all : (d o : List ℕ) (n : ℕ) (out : List ℕ) → Laid d o n out [] → out ≡ d ++ drop (length d) o
-laid_all d o n out (g, e, f) =
-    let l = length-drop n d in
-    let k = ap length f in
-    let m : n ≡ length d = omega arith in
-    let t = take_all n d (omega arith) in
-    cc
+pub end_room : (content lent : List ℕ) (len : ℕ) (out rest : List ℕ) → stuffed_len content ≤ length lent → Comes content lent len out rest → len + 3 ≤ length lent
+end_room content lent len out rest h k = let a = coming content lent len out rest h k in omega arith
 
-pub laid_len : (d o : List ℕ) (n : ℕ) (out r : List ℕ) → Laid d o n out r → n + length r ≡ length d
-laid_len d o n out r (g, e, f) = let l = length-drop n d in let k = ap length f in omega arith
-
--- a turn of the loop begins at a byte of the content
-abbrev pub Comes : List ℕ → List ℕ → Bool → ℕ → ℕ → List ℕ → Type 0
-Comes s o start i n out = Laid (stuff_from true s) o n out (stuff_from start (drop i s))
-
--- behind the dot that goes before it, if one does, stands the byte
-abbrev pub Next : List ℕ → List ℕ → ℕ → ℕ → List ℕ → Type 0
-Next s o i n out = Laid (stuff_from true s) o n out (get_or s i 0 ∷ stuff_from (eqb (get_or s i 0) 10) (drop (i + 1) s))
-
-pub room : (s o : List ℕ) → stuffed_len s ≤ length o → length (stuff_from true s) ≤ length o
-room s o h = let e = ap length (stuff_from_holds s) in let f = stuffed_length s in omega arith
-
-comes_as : (s o : List ℕ) (start : Bool) (i n : ℕ) (out r : List ℕ) → Comes s o start i n out → stuff_from start (drop i s) ≡ r → Laid (stuff_from true s) o n out r
-comes_as s o start i n out r l e = (l.0, l.1, l.2 ∙ e)
-
-pub with_dot : (s o : List ℕ) (start : Bool) (i n : ℕ) (out : List ℕ) → i < length s → stuffed_len s ≤ length o → (start && eqb (get_or s i 0) 46) ≡ true → Comes s o start i n out →
-    (n < length o) × Next s o i (n + 1) (set out n 46)
-with_dot s o start i n out h k t l =
-    let e = stuff_more start s i h in
-    let m = comes_as s o start i n out (46 ∷ get_or s i 0 ∷ stuff_from (eqb (get_or s i 0) 10) (drop (i + 1) s)) l (simp t at e) in
-    let r = room s o k in
-    let b = laid_below _ o n 46 out _ r m in
-    (omega arith, laid_more _ o n 46 out _ r m)
-
-without_dot_holds : (s o : List ℕ) (start : Bool) (i n : ℕ) (out : List ℕ) → i < length s → (start && eqb (get_or s i 0) 46) ≡ false → Comes s o start i n out → Next s o i n out
-without_dot_holds s o start i n out h t l =
-    let e = stuff_more start s i h in
-    comes_as s o start i n out (get_or s i 0 ∷ stuff_from (eqb (get_or s i 0) 10) (drop (i + 1) s)) l (simp t at e)
-
-next : (s o : List ℕ) (i n : ℕ) (out : List ℕ) → stuffed_len s ≤ length o → Next s o i n out →
-    (n < length o) × Comes s o (eqb (get_or s i 0) 10) (i + 1) (n + 1) (set out n (get_or s i 0))
-next s o i n out k l =
-    let r = room s o k in
-    let b = laid_below _ o n (get_or s i 0) out _ r l in
-    (omega arith, laid_more _ o n (get_or s i 0) out _ r l)
-
--- with a dot written before the byte, or without
-abbrev pub Way : Bool → ℕ → List ℕ → ℕ → List ℕ → Type 0
-Way dot n out n' out' = ((dot ≡ true) × (n' ≡ n + 1) × (out' ≡ set out n 46)) ⊎ ((dot ≡ false) × (n' ≡ n) × (out' ≡ out))
-
-met : (s o : List ℕ) (start : Bool) (i n : ℕ) (out : List ℕ) (n' : ℕ) (out' : List ℕ) (dot : Bool) → i < length s → stuffed_len s ≤ length o →
-    dot ≡ (start && eqb (get_or s i 0) 46) → Comes s o start i n out → Way dot n out n' out' → Next s o i n' out'
-met s o start i n out n' out' dot h k t l (inl (w, e, f)) =
-    subst (λ (m : ℕ). Next s o i m out') (sym e) (subst (λ (u : List ℕ). Next s o i (n + 1) u) (sym f) (with_dot s o start i n out h k (sym t ∙ w) l).1)
-met s o start i n out n' out' dot h k t l (inr (w, e, f)) =
-    subst (λ (m : ℕ). Next s o i m out') (sym e) (subst (λ (u : List ℕ). Next s o i n u) (sym f) (without_dot_holds s o start i n out h (sym t ∙ w) l))
-
--- a turn of the loop
-pub turned : (s o : List ℕ) (start : Bool) (i n : ℕ) (out : List ℕ) (n' : ℕ) (out' : List ℕ) (dot : Bool) → i < length s → stuffed_len s ≤ length o →
-    dot ≡ (start && eqb (get_or s i 0) 46) → Comes s o start i n out → Way dot n out n' out' →
-    (n' < length o) × Comes s o (eqb (get_or s i 0) 10) (i + 1) (n' + 1) (set out' n' (get_or s i 0))
-turned s o start i n out n' out' dot h k t l w = next s o i n' out' k (met s o start i n out n' out' dot h k t l w)
+-- what a call that puts a part tells
+abbrev Puts : ℕ → List ℕ → List ℕ → ℕ → List ℕ → Type 0
+Puts len out part len' out' = (text lent : List ℕ) → Written len out text lent → Written len' out' (text ++ part) lent
 
 -- the dot line behind all
-pub at_end : (s o : List ℕ) (start : Bool) (i n : ℕ) (out : List ℕ) → length s ≤ i → stuffed_len s ≤ length o → Comes s o start i n out →
-    (n + 3 ≤ length o) × (set (set (set out n 46) (n + 1) 13) (n + 2) 10 ≡ stuffed s ++ drop (stuffed_len s) o)
-at_end s o start i n out h k l =
-    let d = stuff_from true s in
-    let r = room s o k in
-    let m = comes_as s o start i n out dot_line l (stuff_all start s i h) in
-    let a = laid_more d o n 46 out (13 ∷ 10 ∷ []) r m in
-    let b = laid_more d o (n + 1) 13 (set out n 46) (10 ∷ []) r a in
-    let z = laid_more d o (n + 1 + 1) 10 (set (set out n 46) (n + 1) 13) [] r b in
-    let q = laid_all d o (n + 1 + 1 + 1) _ z in
-    let w = laid_len d o n out dot_line m in
-    let x : n + 1 + 1 ≡ n + 2 = omega arith in
-    let f = stuff_from_holds s in
-    let g = stuffed_length s in
-    (omega arith, (cc))
+pub all_came : (content lent : List ℕ) (len : ℕ) (out rest : List ℕ) (len' : ℕ) (out' : List ℕ) → lines_of rest ≡ [] → Puts len out dot_line len' out' → Comes content lent len out rest →
+    out' ≡ stuffed content ++ drop (stuffed_len content) lent
+all_came content lent len out rest len' out' e f (done, h, w) =
+    let i : stuffed content ≡ done ++ dot_line = h ∙ ap (λ ls. done ++ (joined (stuffed_lines ls) ++ dot_line)) e in
+    (f done lent w).1 ∙ ap (λ s. at_front s lent) (sym i) ∙ ap (λ n. stuffed content ++ drop n lent) (stuffed_length content)

@@ -7,5 +7,7 @@ pub mod MailLinesShown
 pub mod MailParts
 pub mod Stuffing
 pub mod StuffingHold
+pub mod TaggedMails
 pub mod Tags
 pub mod TagsHold
+pub mod Writing

@@ -1,5 +1,6 @@
 -- The lines of a text, each with the LF that ends it, and the header, which is the lines before the first empty one.
-use Rattle.std.specs.Prelude.{ℕ, Bool, cond, List, [], ◌∷◌, ◌++◌, ◌==◌}
+use Rattle.std.specs.Prelude.{◌≡◌, ℕ, Bool, cond, List, [], ◌∷◌, ◌++◌, ◌==◌}
+use Rattle.std.specs.Borrow.{Bor}
 use Rattle.smtp.specs.Bytes.{same}
 
 -- a byte put at the front of the first line
@@ -36,3 +37,7 @@ before_empty (l ∷ ls) = cond (empty_line l) [] (l ∷ before_empty ls)
 -- the header of a section: the lines before the first empty line, or all
 abbrev pub header : List ℕ → List ℕ
 header s = joined (before_empty (lines_of s))
+
+-- calls that give what the test says of each line
+abbrev pub Computes : (Bor (List ℕ) → Bool → Type 0) → (List ℕ → Bool) → Type 0
+Computes gives test = (line : Bor (List ℕ)) (r : Bool) → gives line r → r ≡ test line.now

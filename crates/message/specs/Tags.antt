@@ -1,5 +1,5 @@
 -- The tag of a message (RFC 8689): by the REQUIRETLS option, or by the TLS-Required field of its header (RFC 5322 section 2.2).
-use Rattle.std.specs.Prelude.{◌≡◌, ℕ, ◌<◌, Bool, false, cond, ◌||◌, List, [], ◌∷◌, ◌++◌, length, take, drop, Ok, Err, codes, Result, ◌==◌}
+use Rattle.std.specs.Prelude.{ℕ, Bool, false, cond, ◌||◌, List, [], ◌∷◌, ◌++◌, take, drop, Ok, Err, codes, Result, ◌==◌}
 use Rattle.smtp.specs.declared.refusal.Refusal.{Refusal}
 use Rattle.smtp.specs.declared.refusal.Refusal.TheVariants.{BadContent, RepeatedTlsRequired}
 use Rattle.smtp.specs.Bytes.{same}
@@ -23,9 +23,11 @@ abbrev pub fields : List (List ℕ) → List (List ℕ)
 fields [] = []
 fields (l ∷ ls) = fields_from l ls
 
--- the field at the front of a text that is not empty: it has some bytes, and the other fields are those of what stands behind it
-abbrev pub FirstField : List ℕ → List ℕ → Type 0
-FirstField s f = 0 < length s → (0 < length f) × (fields (lines_of s) ≡ f ∷ fields (lines_of (drop (length f) s)))
+-- how a tag is printed
+abbrev pub tag_name : Tag → List ℕ
+tag_name Required = codes "required"
+tag_name No = codes "no"
+tag_name None = codes "none"
 
 -- a field that begins with its name and a colon, in any letter case
 abbrev pub is_tls_required : List ℕ → Bool

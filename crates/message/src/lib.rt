@@ -3,7 +3,10 @@
 #![tactic(auto)]
 
 pub mod content;
+mod lines;
 pub mod mail_line;
 mod mail_options;
 pub mod stuffing;
 pub mod tag;
+pub mod tagged;
+mod writer;

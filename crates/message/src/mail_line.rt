@@ -1,24 +1,28 @@
-ghost use Rattle.std.specs.Prelude.{◌≡◌, ◌+◌, ◌≤◌, true, length, Ok};
-ghost use Rattle.std.proofs.Math.Seq.{paste};
+ghost use Rattle.std.specs.Prelude.{◌≡◌, ◌≤◌, true, length, Ok};
 ghost use Rattle.std.specs.Option.{option_map};
 ghost use Rattle.std.specs.Result.{result_map_both as answered};
 ghost use Rattle.message.specs.MailLines.{path_form, mail_line, ending, at_front, writing, buffer_after};
 ghost use Rattle.message.specs.MailLinesHold.{FormHolds, PartsHold, PlaceHolds, ReadBack, Ours, WrittenAgain, round_trip, again_in, again_after};
 ghost use Rattle.message.specs.MailLinesShown.{MailLinesShown};
-ghost use Rattle.message.specs.MailParts.{said, body_of, cut, command_of};
+ghost use Rattle.message.specs.MailParts.{said, cut, command_of};
 
 use crate::mail_options::Options;
-use smtp::bytes::{from, part_len, same_word, upto};
+use crate::writer::Writer;
+use smtp::bytes::{same_word, upto};
 use smtp::names::is_address;
 use smtp::refusal::Refusal;
 
 // The longest MAIL line, its CRLF counted, and the least buffer to write one into.
 const LONGEST: usize = 523;
 
+// Where the path stands in a line: behind `MAIL FROM:<`.
+const PATH_PLACE: usize = 11;
+
 // What a MAIL line says: the path, as a part of the line, the path's place there, and whether it requires TLS on the whole way.
 #[derive(Clone, Copy)]
 pub struct MailLine<'l> {
     path: &'l [u8],
+    // the same in every line; a field, since the place is handed out to C
     place: usize,
     require_tls: bool,
 }
@@ -37,33 +41,20 @@ fn is_path(path: &[u8]) -> bool
     path.is_empty() || is_address(path)
 }
 
-// A line without its CRLF; none where it does not end in one.
-fn without_crlf<'l>(line: &'l [u8]) -> Option<&'l [u8]>
-    ensures { option_map (λ x. x.now) result ≡ body_of line.now }
-{
-    match line {
-        [body @ .., b'\r', b'\n'] => Some(body),
-        _ => None,
-    }
-}
-
 impl<'l> Command<'l> {
     // Takes a line apart; none where its first words, a `>` or CRLF are missing.
     fn read(line: &'l [u8]) -> Option<Command<'l>>
         ensures { option_map cut result ≡ command_of line.now }
     {
-        let body = without_crlf(line)?;
-        if !same_word(upto(body, 11), b"MAIL FROM:<") {
+        let body = line.strip_suffix(b"\r\n")?;
+        let (words, inner) = body.split_at_checked(PATH_PLACE)?;
+        if !same_word(words, b"MAIL FROM:<") {
             return None;
         }
-        let inner = from(body, 11);
-        let n = part_len(inner, b'>');
-        if n == inner.len() {
-            return None;
-        }
+        let n = inner.iter().position(|b| *b == b'>')?;
         Some(Command {
-            path: upto(inner, n),
-            tail: from(inner, n + 1),
+            path: &inner[..n],
+            tail: &inner[n + 1..],
         })
     }
 }
@@ -76,9 +67,7 @@ impl<'l> MailLine<'l> {
         if line.len() > LONGEST {
             return Err(Refusal::MailLineTooLong);
         }
-        let Some(command) = Command::read(line) else {
-            return Err(Refusal::MailLineForm);
-        };
+        let command = Command::read(line).ok_or(Refusal::MailLineForm)?;
         if !is_path(command.path) {
             return Err(Refusal::MailLineForm);
         }
@@ -86,8 +75,8 @@ impl<'l> MailLine<'l> {
         options.check(covered)?;
         Ok(MailLine {
             path: command.path,
-            place: 11,
-            require_tls: options.require_tls.once,
+            place: PATH_PLACE,
+            require_tls: options.require_tls.is_seen(),
         })
     }
 
@@ -124,17 +113,6 @@ fn ending(require_tls: bool) -> &'static [u8]
     }
 }
 
-// Puts a part into a buffer from a place on, and gives the place behind it.
-fn put(out: &mut [u8], at: usize, part: &[u8]) -> usize
-    requires { at + length part.now ≤ length out.old }
-    ensures end { result ≡ at + length part.now }
-    ensures buffer { out.new ≡ paste out.old at part.now (length part.now) }
-{
-    let end = at + part.len();
-    out[at..end].copy_from_slice(part);
-    end
-}
-
 // Writes a MAIL line at the front of a buffer, in capitals, with REQUIRETLS or no option, and gives its length. What lies behind
 // the line stays, and all where the call is refused.
 pub fn write_mail_line(path: &[u8], require_tls: bool, out: &mut [u8]) -> Result<usize, Refusal>
@@ -147,9 +125,11 @@ pub fn write_mail_line(path: &[u8], require_tls: bool, out: &mut [u8]) -> Result
     if out.len() < LONGEST {
         return Err(Refusal::ShortBuffer);
     }
-    let at = put(out, 0, b"MAIL FROM:<");
-    let at = put(out, at, path);
-    Ok(put(out, at, ending(require_tls)))
+    let mut writer = Writer::new(out);
+    writer.put(b"MAIL FROM:<");
+    writer.put(path);
+    writer.put(ending(require_tls));
+    Ok(writer.len())
 }
 
 // Writes a path and option as a line, reads that back as one that came covered, and says whether they are the same: they always are.

@@ -1,18 +1,20 @@
 ghost use Rattle.std.specs.Prelude.{◌≡◌};
 ghost use Rattle.message.specs.MailLines.{option_form, is_require_tls, is_size, is_ret};
-ghost use Rattle.message.specs.MailParts.{kind_of, counted, none_seen, seen, options_in, checked};
+ghost use Rattle.message.specs.MailParts.{counted, is_seen, none_seen, seen, options_in, checked};
 
-use smtp::bytes::{ByteKind, are_all, from, is_digit, part_len, same_word, upto};
+use smtp::bytes::same_word;
 use smtp::refusal::Refusal;
 
 // The most digits of a size.
 const SIZE_DIGITS: usize = 20;
 
-// How often one option was seen: whether, and whether more than once.
-#[derive(Clone, Copy)]
-pub(crate) struct Tally {
-    pub(crate) once: bool,
-    pub(crate) twice: bool,
+// How often one option was seen.
+#[derive(Clone, Copy, PartialEq, Eq)]
+pub(crate) enum Count {
+    Never,
+    Once,
+    // twice or more
+    Repeated,
 }
 
 // What the options seen so far say: whether each has its form, whether each is known, and how often each was seen.
@@ -20,36 +22,16 @@ pub(crate) struct Tally {
 pub(crate) struct Options {
     pub(crate) formed: bool,
     pub(crate) known: bool,
-    pub(crate) require_tls: Tally,
-    pub(crate) size: Tally,
-    pub(crate) ret: Tally,
-}
-
-// The kinds of bytes that parts of an option are made of.
-#[derive(Clone, Copy)]
-enum Kind {
-    // the digits of a size
-    Digit,
-    // 33 to 126: any byte of an option
-    Visible,
-}
-
-impl ByteKind for Kind {
-    ghost holds = { kind_of };
-
-    fn has(self, b: u8) -> bool {
-        match self {
-            Kind::Digit => is_digit(b),
-            Kind::Visible => matches!(b, b'!'..=b'~'),
-        }
-    }
+    pub(crate) require_tls: Count,
+    pub(crate) size: Count,
+    pub(crate) ret: Count,
 }
 
 // Whether an option is 1 or more bytes of 33 to 126.
 fn is_option(option: &[u8]) -> bool
     ensures { result ≡ option_form option.now }
 {
-    !option.is_empty() && are_all(option, Kind::Visible)
+    !option.is_empty() && option.iter().all(|b| b.is_ascii_graphic())
 }
 
 fn is_require_tls(option: &[u8]) -> bool
@@ -62,11 +44,16 @@ fn is_require_tls(option: &[u8]) -> bool
 fn is_size(option: &[u8]) -> bool
     ensures { result ≡ is_size option.now }
 {
-    let value = from(option, 5);
-    same_word(upto(option, 5), b"SIZE=")
-        && !value.is_empty()
-        && value.len() <= SIZE_DIGITS
-        && are_all(value, Kind::Digit)
+    // A `match`: `is_some_and` would hold the test of the digits as a closure in a closure, no plainer to read or to prove.
+    match option.split_at_checked(5) {
+        Some((name, value)) => {
+            same_word(name, b"SIZE=")
+                && !value.is_empty()
+                && value.len() <= SIZE_DIGITS
+                && value.iter().all(|b| b.is_ascii_digit())
+        }
+        None => false,
+    }
 }
 
 fn is_ret(option: &[u8]) -> bool
@@ -75,14 +62,22 @@ fn is_ret(option: &[u8]) -> bool
     same_word(option, b"RET=FULL") || same_word(option, b"RET=HDRS")
 }
 
-impl Tally {
-    // The tally with one more option seen, which is this one or another.
-    fn with(self, is: bool) -> Tally
+impl Count {
+    // Whether the option was seen.
+    pub(crate) fn is_seen(self) -> bool
+        ensures { result ≡ is_seen self }
+    {
+        self != Count::Never
+    }
+
+    // The count with one more option seen, which is this one or another.
+    fn with(self, is: bool) -> Count
         ensures { result ≡ counted self is }
     {
-        Tally {
-            once: self.once || is,
-            twice: self.twice || (self.once && is),
+        match (self, is) {
+            (_, false) => self,
+            (Count::Never, true) => Count::Once,
+            (_, true) => Count::Repeated,
         }
     }
 }
@@ -92,16 +87,12 @@ impl Options {
     fn none(formed: bool) -> Options
         ensures { result ≡ none_seen formed }
     {
-        let none = Tally {
-            once: false,
-            twice: false,
-        };
         Options {
             formed,
             known: true,
-            require_tls: none,
-            size: none,
-            ret: none,
+            require_tls: Count::Never,
+            size: Count::Never,
+            ret: Count::Never,
         }
     }
 
@@ -125,16 +116,13 @@ impl Options {
     pub(crate) fn read(tail: &[u8]) -> Options
         ensures { result ≡ options_in tail.now }
     {
-        let first = part_len(tail, b' ');
-        let mut options = Options::none(first == 0);
-        let mut rest = from(tail, first);
-        while !rest.is_empty() {
-            let behind = from(rest, 1);
-            let n = part_len(behind, b' ');
-            options = options.with(upto(behind, n));
-            rest = from(behind, n);
-        }
-        options
+        let mut parts = tail.split(|b| *b == b' ');
+        // right behind the path stands nothing
+        let formed = parts.next().is_some_and(|first| first.is_empty());
+        parts.fold(
+            Options::none(formed),
+            |options, option| options.with(option),
+        )
     }
 
     // The first refusal that the options call for, on a line that came covered by TLS or not.
@@ -145,9 +133,12 @@ impl Options {
             Err(Refusal::MailLineForm)
         } else if !self.known {
             Err(Refusal::UnknownOption)
-        } else if self.require_tls.twice || self.size.twice || self.ret.twice {
+        } else if self.require_tls == Count::Repeated
+            || self.size == Count::Repeated
+            || self.ret == Count::Repeated
+        {
             Err(Refusal::RepeatedOption)
-        } else if self.require_tls.once && !covered {
+        } else if self.require_tls.is_seen() && !covered {
             Err(Refusal::RequireTlsInClear)
         } else {
             Ok(())

@@ -1,30 +1,24 @@
-ghost use Rattle.std.specs.Prelude.{◌≡◌, ◌≤◌, ◌&&◌, ◌++◌, length, drop, ◌==◌};
-ghost use Rattle.message.specs.Stuffing.{stuffed, stuffed_len, stuff_answer, stuff_buffer};
+ghost use Rattle.std.specs.Prelude.{◌≡◌, ◌≤◌, ◌++◌, length, drop};
+ghost use Rattle.message.specs.Stuffing.{dot_first, stuffed, stuffed_len, stuff_answer, stuff_buffer};
 ghost use Rattle.message.specs.StuffingHold.{StuffingHolds};
 
 use crate::content::check_content;
+use crate::lines::lines_of;
+use crate::writer::Writer;
 use smtp::Refusal;
 
-// Whether a byte is a dot at a line's start, which gets one more in front.
-fn is_first_dot(at_start: bool, b: u8) -> bool
-    ensures { result ≡ (at_start && b == 46) }
+// Whether a line begins with a dot, and so gets one more in front.
+fn is_dotted(line: &[u8]) -> bool
+    ensures { result ≡ dot_first line.now }
 {
-    at_start && b == b'.'
+    matches!(line, [b'.', ..])
 }
 
 // How long content is when it is dot-stuffed: one byte more for each line that begins with a dot, and three for the dot line.
 pub fn stuffed_len(content: &[u8]) -> usize
     ensures { result ≡ stuffed_len content.now }
 {
-    // how many lines begin with a dot
-    let mut dots: usize = 0;
-    let mut at_start = true;
-    for b in content {
-        if is_first_dot(at_start, *b) {
-            dots += 1;
-        }
-        at_start = *b == b'\n';
-    }
+    let dots = lines_of(content).filter(|line| is_dotted(line)).count();
     content.len() + dots + 3
 }
 
@@ -33,20 +27,14 @@ fn put_stuffed(content: &[u8], out: &mut [u8])
     requires { stuffed_len content.now ≤ length out.old }
     ensures { out.new ≡ stuffed content.now ++ drop (stuffed_len content.now) out.old }
 {
-    let mut n: usize = 0;
-    let mut at_start = true;
-    for b in content {
-        if is_first_dot(at_start, *b) {
-            out[n] = b'.';
-            n += 1;
+    let mut writer = Writer::new(out);
+    for line in lines_of(content) {
+        if is_dotted(line) {
+            writer.put(b".");
         }
-        out[n] = *b;
-        n += 1;
-        at_start = *b == b'\n';
+        writer.put(line);
     }
-    out[n] = b'.';
-    out[n + 1] = b'\r';
-    out[n + 2] = b'\n';
+    writer.put(b".\r\n");
 }
 
 // Writes content, dot-stuffed and with the dot line, to the front of a buffer, and answers how long it is. The rest of the buffer stays, and a

@@ -1,11 +1,14 @@
-ghost use Rattle.std.specs.Prelude.{◌≡◌, ◌≤◌, length};
+ghost use Rattle.std.specs.Prelude.{◌≡◌, length, Some};
+ghost use Rattle.std.specs.Iterator.{YieldsFirstRef, at_most};
 ghost use Rattle.message.specs.Lines.{lines_of};
-ghost use Rattle.message.specs.Tags.{folded, fields, FirstField, white, behind_white, field_tag, tag_of, tls_required, tagged};
+ghost use Rattle.message.specs.Tags.{folded, fields, white, behind_white, field_tag, is_tls_required, tag_of, tls_required, tagged, tag_name};
 ghost use Rattle.message.specs.TagsHold.{TagsHold};
 
-use crate::content::{check_content, first_line, header_len};
+use crate::content::{check_content, header_len};
+use crate::lines::{front_len, lines_of};
 use smtp::Refusal;
 use smtp::bytes::{from, same_word, upto};
+use std::fmt;
 
 // How a message's sender wants it carried.
 #[derive(Clone, Copy, PartialEq, Eq, Debug)]
@@ -18,48 +21,60 @@ pub enum Tag {
     None,
 }
 
+impl fmt::Display for Tag {
+    ghost output = { λ tag. Some (tag_name tag) };
+
+    fn fmt<W: fmt::Write>(&self, f: &mut fmt::Formatter<W>) -> fmt::Result {
+        f.write_str(match self {
+            Tag::Required => "required",
+            Tag::No => "no",
+            Tag::None => "none",
+        })
+    }
+}
+
 // Whether a line goes on with the field before it.
 fn is_folded(line: &[u8]) -> bool
     ensures { result ≡ folded line.now }
 {
-    match line {
-        [b' ' | b'\t', ..] => true,
-        _ => false,
-    }
+    matches!(line, [b' ' | b'\t', ..])
 }
 
-// The first field of a header that is not empty: its first line and the folded lines behind it.
-fn first_field<'s>(s: &'s [u8]) -> &'s [u8]
-    ensures is { FirstField s.now result.now }
-    ensures within { length result.now ≤ length s.now }
-{
-    let mut n = first_line(s).len();
-    while n < s.len() {
-        let line = first_line(from(s, n));
-        if !is_folded(line) {
-            return upto(s, n);
-        }
-        n += line.len();
+// The fields of a header that are still to be handed out: each a line and the folded lines behind it.
+#[derive(Drop)]
+struct Fields<'h> {
+    rest: &'h [u8],
+}
+
+impl<'h> Iterator for Fields<'h> {
+    type Item = &'h [u8];
+
+    ghost next_gives = { YieldsFirstRef (λ s. fields (lines_of s.rest.now)) };
+
+    ghost remaining = { λ s. at_most (length s.rest.now) };
+
+    fn next(&mut self) -> Option<&'h [u8]> {
+        let rest = self.rest;
+        let mut lines = lines_of(rest);
+        let first = lines.next()?;
+        let (field, behind) = rest.split_at(first.len() + front_len(lines, is_folded));
+        self.rest = behind;
+        Some(field)
     }
-    upto(s, n)
 }
 
 fn is_white(b: u8) -> bool
     ensures { result ≡ white b }
 {
-    b == b' ' || b == b'\t' || b == b'\r' || b == b'\n'
+    matches!(b, b' ' | b'\t' | b'\r' | b'\n')
 }
 
 // What stands behind the white space at the front.
 fn behind_white<'s>(s: &'s [u8]) -> &'s [u8]
     ensures { result.now ≡ behind_white s.now }
 {
-    for i in 0..s.len() {
-        if !is_white(s[i]) {
-            return from(s, i);
-        }
-    }
-    from(s, s.len())
+    let n = s.iter().position(|b| !is_white(*b)).unwrap_or(s.len());
+    from(s, n)
 }
 
 // The tag by one TLS-Required field: behind the name and its colon, white space and `No`.
@@ -73,25 +88,23 @@ fn field_tag(field: &[u8]) -> Tag
     }
 }
 
+fn is_tls_required(field: &[u8]) -> bool
+    ensures { result ≡ is_tls_required field.now }
+{
+    same_word(upto(field, 13), b"TLS-Required:")
+}
+
 // The tag by the TLS-Required fields of a header; two or more are refused.
 fn header_tag(header: &[u8]) -> Result<Tag, Refusal>
     ensures { result ≡ tag_of (tls_required (fields (lines_of header.now))) }
 {
-    let mut found: Option<Tag> = None;
-    let mut at: usize = 0;
-    while at < header.len() {
-        let field = first_field(from(header, at));
-        if same_word(upto(field, 13), b"TLS-Required:") {
-            if found.is_some() {
-                return Err(Refusal::RepeatedTlsRequired);
-            }
-            found = Some(field_tag(field));
-        }
-        at += field.len();
-    }
-    match found {
-        Some(tag) => Ok(tag),
-        None => Ok(Tag::None),
+    let mut found = Fields { rest: header }.filter(|field| is_tls_required(field));
+    let Some(field) = found.next() else {
+        return Ok(Tag::None);
+    };
+    match found.next() {
+        None => Ok(field_tag(field)),
+        Some(_) => Err(Refusal::RepeatedTlsRequired),
     }
 }
 

@@ -1,5 +1,5 @@
 // Content: the borders of its form, and dot-stuffing.
-use crate::texts::{padded, repeated};
+use crate::texts::{is_at_front, number, padded, repeated};
 use message::content::check_content;
 use message::stuffing::{stuff, stuffed_len};
 use std::test::Fail;
@@ -26,8 +26,8 @@ const FORMS: [(&'static [u8], bool); 16] = [
 
 #[test]
 fn content_is_lines_of_bytes_1_to_127(rt: HostRuntime) {
-    for row in &FORMS {
-        assert_eq!(rt; check_content(row.0).is_ok(), row.1);
+    for (text, good) in &FORMS {
+        assert_eq!(rt; check_content(*text).is_ok(), *good);
     }
 }
 
@@ -63,27 +63,22 @@ const STUFFED: [(&'static [u8], &'static [u8]); 7] = [
 
 #[test]
 fn a_dot_at_a_line_start_gets_one_more(rt: HostRuntime) {
-    for row in &STUFFED {
+    for (content, stuffed) in &STUFFED {
         let mut buffer = [7u8; 32];
-        assert_eq!(rt; stuffed_len(row.0), row.1.len());
-        assert_eq!(rt; stuff(row.0, &mut buffer), Ok(row.1.len()));
-        for (i, b) in buffer.iter().enumerate() {
-            assert_eq!(rt; *b, row.1.get(i).copied().unwrap_or(7));
-        }
+        assert_eq!(rt; stuffed_len(*content), stuffed.len());
+        assert_eq!(rt; stuff(*content, &mut buffer), Ok(stuffed.len()));
+        assert!(rt; is_at_front(*stuffed, &buffer));
     }
 }
 
-// The number by which stuffing into a buffer of so many bytes is refused, or 0.
+// The number by which stuffing into a buffer of so many bytes is refused, if it is.
 fn stuff_refusal(
     heap: std::alloc::Global,
     content: &[u8],
     room: usize,
-) -> Result<u8, std::alloc::AllocError> {
+) -> Result<Option<u8>, std::alloc::AllocError> {
     let mut buffer = Vec::from_elem(heap, 7u8, room)?;
-    Ok(match stuff(content, &mut buffer) {
-        Ok(_) => 0,
-        Err(refusal) => refusal.number(),
-    })
+    Ok(number(stuff(content, &mut buffer)))
 }
 
 // Lines of a single dot, as many as there is room for, and an empty line.
@@ -92,11 +87,11 @@ fn the_longest_result_has_43693_bytes(rt: HostRuntime) -> Result<(), Fail> {
     let content = repeated(rt.alloc(), b".\r\n", 10_922, b"\r\n")?;
     assert_eq!(rt; content.len(), 32_768);
     assert_eq!(rt; stuffed_len(&content), 43_693);
-    assert_eq!(rt; stuff_refusal(rt.alloc(), &content, 43_693)?, 0);
-    assert_eq!(rt; stuff_refusal(rt.alloc(), &content, 43_692)?, 10);
+    assert_eq!(rt; stuff_refusal(rt.alloc(), &content, 43_693)?, None);
+    assert_eq!(rt; stuff_refusal(rt.alloc(), &content, 43_692)?, Some(10));
     // a broken form comes before a short buffer
     let longer = repeated(rt.alloc(), b".\r\n", 10_923, b"")?;
-    assert_eq!(rt; stuff_refusal(rt.alloc(), &longer, 43_692)?, 9);
-    assert_eq!(rt; stuff_refusal(rt.alloc(), b"hi", 0)?, 9);
+    assert_eq!(rt; stuff_refusal(rt.alloc(), &longer, 43_692)?, Some(9));
+    assert_eq!(rt; stuff_refusal(rt.alloc(), b"hi", 0)?, Some(9));
     Ok(())
 }

@@ -71,8 +71,8 @@ fn with_option(answer: Result<Tag, Refusal>) -> Result<Tag, Refusal> {
 
 #[test]
 fn sections_give_their_tags_and_the_option_goes_first(rt: HostRuntime) {
-    for row in &SECTIONS {
-        assert_eq!(rt; Tag::read(false, row.0), row.1);
-        assert_eq!(rt; Tag::read(true, row.0), with_option(row.1));
+    for (section, answer) in &SECTIONS {
+        assert_eq!(rt; Tag::read(false, *section), *answer);
+        assert_eq!(rt; Tag::read(true, *section), with_option(*answer));
     }
 }

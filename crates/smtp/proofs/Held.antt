@@ -1,7 +1,9 @@
 -- The laws of parts, words, host names and patterns.
-use Rattle.std.proofs.Common.{◌≡◌, ℕ, true, ◌&&◌, eqb, List, [], ◌∷◌, ◌++◌, map, sym, refl, ap, ◌∙◌, inl, inr, ⊎_elim, arith}
-use Rattle.std.proofs.lemmas.Bool.Decides.{nat_tests}
+use Rattle.std.proofs.Common.{◌≡◌, ℕ, Bool, true, ◌&&◌, eqb, ◌==◌, List, [], ◌∷◌, ◌++◌, map, sym, refl, ap, ◌∙◌, inl, inr, ⊎_elim, arith}
+use Rattle.std.proofs.lemmas.Bool.Decides.{nat_tests, Decides-at}
+use Rattle.std.proofs.lemmas.Slice.Eq.{bytes_eq-Decides}
 use Rattle.std.proofs.lemmas.Bool.{false≢true, and_parts, and_from, or_cases, or_left, or_right, leb-true, le-leb}
+use Rattle.std.specs.Str.{bytes_eq}
 use Rattle.smtp.specs.Bytes.{lowered, same, all}
 use Rattle.smtp.specs.Parts.{first_part, other_parts, parts, from_first}
 use Rattle.smtp.specs.Names.{label_byte, wild}
@@ -23,15 +25,14 @@ parts_only sep [] [] h = refl
 parts_only sep [] (q ∷ ps) h = let e = parts_only sep q ps (grind (arith, nat_tests)) in grind (arith, nat_tests)
 parts_only sep (x ∷ p) ps h = let e = parts_only sep p ps (grind (arith, nat_tests)) in grind (arith, nat_tests)
 
+same_is_bytes_eq : (a b : List ℕ) → same a b ≡ bytes_eq (map lowered a) (map lowered b)
+same_is_bytes_eq [] [] = refl
+same_is_bytes_eq [] (y ∷ b) = refl
+same_is_bytes_eq (x ∷ a) [] = refl
+same_is_bytes_eq (x ∷ a) (y ∷ b) = ap (λ (t : Bool). lowered x == lowered y && t) (same_is_bytes_eq a b)
+
 pub same_is_lowered : SameIsLowered
-same_is_lowered [] [] = (λ _. refl, λ _. refl)
-same_is_lowered [] (y ∷ b) = (λ e. grind (arith, nat_tests), λ e. cc)
-same_is_lowered (x ∷ a) [] = (λ e. grind (arith, nat_tests), λ e. cc)
-same_is_lowered (x ∷ a) (y ∷ b) =
-    let h = same_is_lowered a b in (
-      λ e. let t = h.0 (grind (arith, nat_tests)) in grind (arith, nat_tests),
-      λ e. let t : map lowered a ≡ map lowered b = cc in let u = h.1 t in let v : lowered x ≡ lowered y = cc in grind (arith, nat_tests),
-    )
+same_is_lowered a b = Decides-at (same a b) _ (same_is_bytes_eq a b) (bytes_eq-Decides (map lowered a) (map lowered b))
 
 -- a label has no dot
 label_lacks : (p : List ℕ) → all label_byte p ≡ true → lacks 46 p ≡ true

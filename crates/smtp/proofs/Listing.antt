@@ -1,34 +1,15 @@
 -- What a reply lists, as a walk over its lines sees it.
-use Rattle.std.proofs.Common.{◌≡◌, ℕ, ◌+◌, ◌≤◌, Bool, true, false, cond, ◌&&◌, eqb, List, [], ◌∷◌, length, drop, Some, None, Option, sym, refl, ap, ◌∙◌, subst, inl, inr, arith, Bor}
+use Rattle.std.proofs.Common.{◌≡◌, ℕ, ◌+◌, ◌<◌, Bool, true, false, cond, ◌&&◌, eqb, List, [], ◌∷◌, length, drop, Some, None, Option, sym, refl, ap, ◌∙◌, inl, inr, arith}
 use Rattle.std.proofs.lemmas.Bool.Decides.{nat_tests}
 use Rattle.std.proofs.lemmas.List.{take_all}
 use Rattle.std.proofs.lemmas.Bool.{cases_Bool, and_parts, eqb-true, eqb-false}
-use Rattle.smtp.specs.declared.reply_line.ReplyLine.{ReplyLine}
-use Rattle.smtp.specs.declared.reply_line.ReplyLine.TheVariants.{Greeting, Keyword, Other}
 use Rattle.smtp.specs.Bytes.{same, some, all}
 use Rattle.smtp.specs.Names.{label_byte}
 use Rattle.smtp.specs.Parts.{first_part}
 use Rattle.smtp.proofs.Parted.{take_first}
-use Rattle.smtp.proofs.Wire.{turn, front_none}
-use Rattle.smtp.specs.Replies.{Line, line_at, size, front_by}
-use Rattle.smtp.specs.Keywords.{Part, greeting, keyword, other, is_keyword, listing, text_place, part_of, part_in, part_at, size_in, next_at, seen, lists_word, listed_in, listed}
-
--- what the lines from a place on list: the line at 0 lists nothing
-abbrev pub listed_from : ℕ → List Line → List ℕ → Bool
-listed_from at ls word = cond (eqb at 0) (listed_in ls word) (some (lists_word word) ls)
-
--- from a place on, the lines that are left decide
-abbrev pub Left : List ℕ → List ℕ → ℕ → Type 0
-Left s word at = (n : ℕ) × (length s ≤ at + n) × (listed_from at (front_by n (drop at s)) word ≡ listed s word)
-
-pub left_start : (s word : List ℕ) → Left s word 0
-left_start s word = (length s, omega arith, refl)
-
--- whether a part that was handed out is the word alone on its line
-abbrev pub lists : Part → List ℕ → Bool
-lists (greeting text place) word = false
-lists (keyword found place alone) word = alone && same found word
-lists (other text place) word = false
+use Rattle.smtp.proofs.Wire.{front_more, front_none}
+use Rattle.smtp.specs.Replies.{Line, line_at, size, front}
+use Rattle.smtp.specs.Keywords.{Part, greeting, keyword, other, is_keyword, listing, text_place, part_of, part_in, part_at, size_in, next_at, lists_part, lists_word, listed_in, listed}
 
 label_not_blank : (x : ℕ) → label_byte x ≡ true → eqb x 32 ≡ false
 label_not_blank x e = grind (arith, nat_tests)
@@ -70,59 +51,61 @@ alone_is text word =
     ]
 
 listing_lists : (k a : Bool) (found text word : List ℕ) (place : ℕ) →
-    lists (cond k (keyword found place a) (other text place)) word ≡ (k && (a && same found word))
+    lists_part word (cond k (keyword found place a) (other text place)) ≡ (k && (a && same found word))
 listing_lists true a found text word place = refl
 listing_lists false a found text word place = refl
 
-first_lists : (b : Bool) (p q : List ℕ) (at : ℕ) (l : Part) (word : List ℕ) → lists (cond b (greeting p at) l) word ≡ cond b false (lists l word)
+first_lists : (b : Bool) (p q : List ℕ) (at : ℕ) (l : Part) (word : List ℕ) → lists_part word (cond b (greeting p at) l) ≡ cond b false (lists_part word l)
 first_lists true p q at l word = refl
 first_lists false p q at l word = refl
 
 -- what a line lists, by the part that is handed out of it
-part_lists : (at : ℕ) (l : Line) (word : List ℕ) → lists (part_of at l) word ≡ cond (eqb at 0) false (lists_word word l)
+part_lists : (at : ℕ) (l : Line) (word : List ℕ) → lists_part word (part_of at l) ≡ cond (eqb at 0) false (lists_word word l)
 part_lists at l word =
     first_lists (eqb at 0) l.text [] (text_place at l) (listing l.text (text_place at l)) word
     ∙ ap (λ (b : Bool). cond (eqb at 0) false b)
     (listing_lists (is_keyword (first_part 32 l.text)) (eqb (length (first_part 32 l.text)) (length l.text)) (first_part 32 l.text) l.text word (text_place at l)
     ∙ alone_is l.text word)
 
--- the line of a part that was handed out
-line_of : (at : ℕ) (o : Option Line) (p : Part) → Some p ≡ part_in at o → (l : Line) × (o ≡ Some l) × (p ≡ part_of at l)
-line_of at None p e = absurd (let z : ◌≡◌ {A = ℕ} 0 1 = cc in omega arith)
-line_of at (Some l) p e = (l, refl, cc)
+-- the parts that are handed out of lines, the first of which begins at a place
+abbrev pub parts_from : ℕ → List Line → List Part
+parts_from at [] = []
+parts_from at (l ∷ ls) = part_of at l ∷ parts_from (at + size l) ls
 
-pub left_hit : (s word : List ℕ) (at : ℕ) (p : Part) → Left s word at → Some p ≡ part_at s at → lists p word ≡ true → listed s word ≡ true
-left_hit s word at p (n, b, e) q k =
-    let (l, i, j) = line_of at (line_at (drop at s)) p q in
-    let (m, x, f) = turn n s at l b i in
-    let g = part_lists at l word in
-    let d : lists (part_of at l) word ≡ true = ap (λ (t : Part). lists t word) (sym j) ∙ k in
-    let h = ap (λ (t : List Line). listed_from at t word) (sym f) ∙ e in
+-- and of what a reply has from a place on
+abbrev pub parts_at : List ℕ → ℕ → List Part
+parts_at s at = parts_from at (front (drop at s))
+
+-- behind the last line nothing is handed out
+pub none_left : (s : List ℕ) (at : ℕ) → None ≡ part_at s at → length (parts_at s at) ≡ 0
+none_left s at e = go (line_at (drop at s)) refl e
+  where
+    go : (o : Option Line) → line_at (drop at s) ≡ o → None ≡ part_in at o → length (parts_at s at) ≡ 0
+    go None e q = ap (λ (ls : List Line). length (parts_from at ls)) (front_none (length (drop at s)) (drop at s) e)
+    go (Some l) e q = absurd (let z : ◌≡◌ {A = ℕ} 0 1 = cc in omega arith)
+
+-- and before it a line's part, and then those behind it
+pub one_more : (s : List ℕ) (at at' : ℕ) (p : Part) → Some p ≡ part_at s at → at' ≡ next_at s at → parts_at s at ≡ p ∷ parts_at s at'
+one_more s at at' p e n = go (line_at (drop at s)) refl e n
+  where
+    go : (o : Option Line) → line_at (drop at s) ≡ o → Some p ≡ part_in at o → at' ≡ at + size_in o → parts_at s at ≡ p ∷ parts_at s at'
+    go None e q n = absurd (let z : ◌≡◌ {A = ℕ} 0 1 = cc in omega arith)
+    go (Some l) e q n =
+        let f = ap (parts_from at) (front_more s at l e) in
+        let g : p ≡ part_of at l = cc in
+        f ∙ ap (λ (x : Part). x ∷ parts_at s (at + size l)) (sym g) ∙ ap (λ (x : ℕ). p ∷ parts_at s x) (sym n)
+
+-- the lines from the second on list what their parts do
+later_list : (word : List ℕ) (at : ℕ) (ls : List Line) → 0 < at → some (lists_part word) (parts_from at ls) ≡ some (lists_word word) ls
+later_list word at [] h = refl
+later_list word at (l ∷ ls) h =
+    let e = part_lists at l word in
+    let f = later_list word (at + size l) ls (omega arith) in
     grind (arith, nat_tests)
 
-pub left_miss : (s word : List ℕ) (at at' : ℕ) (p : Part) → Left s word at → Some p ≡ part_at s at → at' ≡ next_at s at → lists p word ≡ false → Left s word at'
-left_miss s word at at' p (n, b, e) q a k =
-    let (l, i, j) = line_of at (line_at (drop at s)) p q in
-    let (m, x, f) = turn n s at l b i in
-    let g = part_lists at l word in
-    let d : lists (part_of at l) word ≡ false = ap (λ (t : Part). lists t word) (sym j) ∙ k in
-    let h = ap (λ (t : List Line). listed_from at t word) (sym f) ∙ e in
-    let y : at' ≡ at + size l = a ∙ ap (λ (o : Option Line). at + size_in o) i in
-    subst (Left s word) (sym y) (m, omega arith, grind (arith, nat_tests))
-
--- behind the last line nothing is listed
-no_line : (at : ℕ) (o : Option Line) → None ≡ part_in at o → o ≡ None
-no_line at None e = refl
-no_line at (Some l) e = absurd (let z : ◌≡◌ {A = ℕ} 0 1 = cc in omega arith)
-
-pub left_end : (s word : List ℕ) (at : ℕ) → Left s word at → None ≡ part_at s at → listed s word ≡ false
-left_end s word at (n, b, e) q =
-    let f = front_none n (drop at s) (no_line at (line_at (drop at s)) q) in
-    let h = ap (λ (t : List Line). listed_from at t word) (sym f) ∙ e in
-    grind (arith, nat_tests)
-
--- a line that is no keyword lists nothing
-pub no_key : (line : ReplyLine) (word : List ℕ) → ((w : Bor (List ℕ)) (p : ℕ) (a : Bool) → line ≡ Keyword w p a → ⊥) → lists (seen line) word ≡ false
-no_key (Greeting t p) word h = refl
-no_key (Keyword w p a) word h = absurd (h w p a refl)
-no_key (Other t p) word h = refl
+pub parts_list : (s word : List ℕ) → some (lists_part word) (parts_at s 0) ≡ listed s word
+parts_list s word = go (front s)
+  where
+    go : (ls : List Line) → some (lists_part word) (parts_from 0 ls) ≡ listed_in ls word
+    go [] = refl
+    go (l ∷ ls) = let e = part_lists 0 l word in let f = later_list word (size l) ls (omega arith) in grind (arith, nat_tests)

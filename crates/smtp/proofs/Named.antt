@@ -1,8 +1,9 @@
 -- Names as the loops read them: byte by byte, with what the bytes before have settled.
-use Rattle.std.proofs.Common.{◌≡◌, ℕ, ◌+◌, ◌<◌, ◌≤◌, Bool, true, false, cond, ◌&&◌, ◌||◌, eqb, ltb, leb, List, [], ◌∷◌, length, get_or, take, drop, refl, ap, inl, inr, add-zero, arith}
-use Rattle.std.proofs.lemmas.List.{at_drop_more, at_drop_all, length-drop, get_or-drop, drop-drop}
+use Rattle.std.proofs.Common.{◌≡◌, ℕ, ◌+◌, ◌<◌, ◌≤◌, Bool, true, false, cond, ◌&&◌, ◌||◌, eqb, ltb, leb, List, [], ◌∷◌, length, get_or, take, drop, refl, ap, sym, nat_eq, inl, inr, arith}
+use Rattle.std.proofs.lemmas.List.{at_drop_more, at_drop_all, drop-drop}
 use Rattle.std.proofs.lemmas.Bool.{cases_lt}
 use Rattle.std.proofs.lemmas.Bool.Decides.{nat_tests as tells}
+use Rattle.std.specs.List.{starts_with}
 use Rattle.smtp.specs.Bytes.{within, lowered, same, all, some}
 use Rattle.smtp.specs.Parts.{first_part, other_parts, parts, from_first}
 use Rattle.smtp.specs.Names.{atom_byte, word, dotted, host_name, address, wild, covered, covers_name}
@@ -23,13 +24,6 @@ runs_is kind most n (x ∷ s) =
 
 pub runs_dotted : (kind : ℕ → Bool) (most : ℕ) (s : List ℕ) → runs kind most 0 s ≡ dotted kind most s
 runs_dotted kind most s = let e = runs_is kind most 0 s in grind (arith, tells)
-
-pub runs_more : (kind : ℕ → Bool) (most n : ℕ) (s : List ℕ) (i : ℕ) → i < length s →
-    runs kind most n (drop i s) ≡ cond (eqb (get_or s i 0) 46) (within 1 n most && runs kind most 0 (drop (i + 1) s)) (kind (get_or s i 0) && runs kind most (n + 1) (drop (i + 1) s))
-runs_more kind most n s i h = at_drop_more (runs kind most n) s i 0 h
-
-pub runs_all : (kind : ℕ → Bool) (most n : ℕ) (s : List ℕ) (i : ℕ) → length s ≤ i → runs kind most n (drop i s) ≡ within 1 n most
-runs_all kind most n s i h = at_drop_all (runs kind most n) s i h
 
 -- whether one of the names in a text covers the host
 unfoldable pub sought : List ℕ → List ℕ → Bool
@@ -94,35 +88,26 @@ covered_star p [] = refl
 covered_star p (x ∷ []) = grind (arith, tells)
 covered_star p (x ∷ (y ∷ name)) = grind (arith, tells)
 
--- a name's start
-start_star : (host s : List ℕ) → 1 < length s → get_or s 0 0 ≡ 42 → get_or s 1 0 ≡ 46 → left host true (from_first 46 host) (drop 1 s) ≡ sought host s
+-- a name's start, with a star or without one
+abbrev pub starred : List ℕ → Bool
+starred s = starts_with nat_eq s (42 ∷ (46 ∷ []))
+
+start_star : (host s : List ℕ) → starred s ≡ true → left host true (from_first 46 host) (drop 1 s) ≡ sought host s
 unfolding left sought
-start_star host [] l a b = absurd (omega arith)
-start_star host (x ∷ []) l a b = absurd (omega arith)
-start_star host (x ∷ (y ∷ s)) l a b = let e = covered_star (first_part 32 s) host in grind (arith, tells)
+start_star host [] t = grind (arith, tells)
+start_star host (x ∷ []) t = grind (arith, tells)
+start_star host (x ∷ (y ∷ s)) t = let e = covered_star (first_part 32 s) host in grind (arith, tells)
 
-start_plain : (host s : List ℕ) → (1 < length s → get_or s 0 0 ≡ 42 → get_or s 1 0 ≡ 46 → ⊥) → left host true host s ≡ sought host s
+start_plain : (host s : List ℕ) → starred s ≡ false → left host true host s ≡ sought host s
 unfolding left sought
-start_plain host [] n = grind (arith, tells)
-start_plain host (x ∷ []) n = grind (arith, tells)
-start_plain host (x ∷ (y ∷ s)) n = grind (arith, tells)
+start_plain host [] t = grind (arith, tells)
+start_plain host (x ∷ []) t = grind (arith, tells)
+start_plain host (x ∷ (y ∷ s)) t = grind (arith, tells)
 
-left_star : (host text : List ℕ) (at dot : ℕ) → dot ≡ part_len 46 host → at + 1 < length text → get_or text at 0 ≡ 42 → get_or text (at + 1) 0 ≡ 46 →
-    left host true (drop dot host) (drop (at + 1) text) ≡ sought host (drop at text)
-left_star host text at dot e l a b =
-    let s = start_star host (drop at text) (simp length-drop (omega arith)) (simp (get_or-drop, add-zero) a) (simp get_or-drop b) in
-    rw (e, drop_first, ← drop-drop 1 at text) s
-
-left_plain : (host text : List ℕ) (at : ℕ) → (at + 1 < length text → get_or text at 0 ≡ 42 → get_or text (at + 1) 0 ≡ 46 → ⊥) →
-    left host true host (drop at text) ≡ sought host (drop at text)
-left_plain host text at n =
-    start_plain host (drop at text) (λ l a b. n (let h = simp length-drop at l in omega arith) (simp (get_or-drop, add-zero) at a) (simp get_or-drop at b))
-
-pub left_start : (host text : List ℕ) (at dot : ℕ) (starred : Bool) → dot ≡ part_len 46 host →
-    starred ≡ (ltb (at + 1) (length text) && (eqb (get_or text at 0) 42 && eqb (get_or text (at + 1) 0) 46)) →
-    left host true (drop (cond starred dot 0) host) (drop (cond starred (at + 1) at) text) ≡ sought host (drop at text)
-left_start host text at dot true e t = left_star host text at dot e (grind (arith, tells)) (grind (arith, tells)) (grind (arith, tells))
-left_start host text at dot false e t = left_plain host text at (λ l a b. grind (arith, tells))
+pub left_start : (host text : List ℕ) (at dot : ℕ) (b : Bool) → dot ≡ part_len 46 host → b ≡ starred (drop at text) →
+    left host true (drop (cond b dot 0) host) (drop (cond b (at + 1) at) text) ≡ sought host (drop at text)
+left_start host text at dot true e t = rw (e, drop_first, ← drop-drop 1 at text) (start_star host (drop at text) (sym t))
+left_start host text at dot false e t = start_plain host (drop at text) (sym t)
 
 -- an address by the place of its at sign
 pub address_at : (s : List ℕ) (n : ℕ) → n ≡ part_len 64 s →

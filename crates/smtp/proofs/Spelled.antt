@@ -3,6 +3,7 @@ use Rattle.std.proofs.Common.{◌≡◌, ℕ, zero, suc, ◌+◌, ◌≤◌, Boo
 use Rattle.std.proofs.lemmas.Bool.Decides.{nat_tests}
 use Rattle.std.proofs.lemmas.Bool.{and_parts, eqb-true, leb-true, true≢false, eq-eqb, le-leb, and_from}
 use Rattle.std.proofs.lemmas.List.{append_assoc, append-nil, take-append-drop, length-append, length-take-le, drop_at, drop-drop, take_at, take-append-le, nil_from_length}
+use Rattle.std.proofs.lemmas.List.Sums.{prefix_len-le-length}
 use Rattle.smtp.specs.declared.reply_line.Separator.{Separator}
 use Rattle.smtp.specs.declared.reply_line.Separator.TheVariants.{Hyphen, Blank, Missing}
 use Rattle.smtp.specs.Bytes.{all}
@@ -11,7 +12,7 @@ use Rattle.smtp.specs.Keywords.{Part, part_in, part_of, text_place, is_keyword}
 use Rattle.smtp.specs.RepliesHold.{mark, wire, spelled, Inner, Final, Ends, Each, Formed, part_bytes, part_place, RepliesHold}
 use Rattle.smtp.specs.Parts.{first_part}
 use Rattle.smtp.proofs.Parted.{take_first, part_within}
-use Rattle.smtp.proofs.Wire.{front_none}
+use Rattle.smtp.proofs.Wire.{front_nil, front_none}
 use Rattle.smtp.proofs.Reading.{first_code}
 
 some_cond : (b : Bool) (x : Option Line) (l : Line) → cond b x None ≡ Some l → (b ≡ true) × (x ≡ Some l)
@@ -20,15 +21,13 @@ some_cond false x l e = absurd (let z : ◌≡◌ {A = ℕ} 0 1 = cc in omega ar
 
 text_all : (s : List ℕ) → all text_byte (take (text_len s) s) ≡ true
 text_all [] = refl
-text_all (x ∷ s) = go (text_byte x) refl (text_all s)
+text_all (x ∷ s) = more (text_byte x) refl (text_all s)
   where
-    go : (b : Bool) → text_byte x ≡ b → all text_byte (take (text_len s) s) ≡ true → all text_byte (take (cond b (suc (text_len s)) 0) (x ∷ s)) ≡ true
-    go true e h = and_from (text_byte x) (all text_byte (take (text_len s) s)) e h
-    go false e h = refl
-
-text_most : (s : List ℕ) → text_len s ≤ length s
-text_most [] = omega arith
-text_most (x ∷ s) = let h = text_most s in grind (arith, nat_tests)
+    more : (b : Bool) → text_byte x ≡ b → all text_byte (take (text_len s) s) ≡ true → all text_byte (take (cond b (1 + text_len s) 0) (x ∷ s)) ≡ true
+    more true e h =
+        let n : 1 + text_len s ≡ suc (text_len s) = omega arith in
+        ap (λ (m : ℕ). all text_byte (take m (x ∷ s))) n ∙ and_from (text_byte x) (all text_byte (take (text_len s) s)) e h
+    more false e h = refl
 
 crlf_shape : (s : List ℕ) → crlf_first s ≡ true → s ≡ 13 ∷ 10 ∷ drop 2 s
 crlf_shape [] e = absurd (true≢false (sym e))
@@ -80,7 +79,7 @@ text_spells a b c sep s l dig full e =
       digits = dig;
       coded = refl;
       texts = text_all s;
-      few = simp length-append (omega (arith, mark_short sep, length-take-le (text_len s) s (text_most s), leb-true (text_len s) 506 t2));
+      few = simp length-append (omega (arith, mark_short sep, length-take-le (text_len s) s (prefix_len-le-length text_byte s), leb-true (text_len s) 506 t2));
       bare = λ m. absurd (full m);
       is = ap (λ (x : List ℕ). a ∷ b ∷ c ∷ (mark sep ++ x)) (text_cut s t1) ∙ ap (λ (x : List ℕ). a ∷ b ∷ c ∷ x) (sym (append_assoc (mark sep) (text ++ 13 ∷ 10 ∷ []) rest));
     })
@@ -271,10 +270,6 @@ line_back a b c l rest dig q e few fit =
     ap (λ (t : List ℕ). line_at (a ∷ b ∷ c ∷ t)) (wire_flat a b c l.separator l.text rest)
     ∙ sep_back a b c l.separator l.text rest dig e (omega arith) fit
     ∙ ap (λ (n : ℕ). Some (record { code = n; separator = l.separator; text = l.text })) (sym q)
-
-front_nil : (n : ℕ) → front_by n [] ≡ []
-front_nil zero = refl
-front_nil (suc n) = refl
 
 inner_fit : (sep : Separator) (text : List ℕ) → Inner sep → Fit sep text
 inner_fit Hyphen text h = tt

@@ -1,5 +1,5 @@
--- Lines of a reply by their places, where what is past the end reads 0.
-use Rattle.std.proofs.Common.{◌≡◌, ℕ, zero, suc, ◌+◌, ◌-◌, ◌<◌, ◌≤◌, Bool, true, false, cond, ◌&&◌, ◌||◌, eqb, leb, List, [], ◌∷◌, length, get_or, drop, Some, None, Option, sym, refl, ap, ◌∙◌, arith}
+-- Lines of a reply: how long they are, and the lines behind the one at the front.
+use Rattle.std.proofs.Common.{◌≡◌, ℕ, zero, suc, ◌+◌, ◌<◌, ◌≤◌, Bool, true, false, cond, ◌&&◌, ◌||◌, eqb, leb, List, [], ◌∷◌, length, get_or, drop, le_refl, Some, None, Option, sym, refl, ap, ◌∙◌, arith}
 use Rattle.std.proofs.lemmas.Bool.Decides.{nat_tests}
 use Rattle.smtp.specs.declared.reply_line.Separator.{Separator}
 use Rattle.smtp.specs.declared.reply_line.Separator.TheVariants.{Hyphen, Blank}
@@ -7,27 +7,13 @@ use Rattle.smtp.specs.Bytes.{letter, digit, all}
 use Rattle.smtp.specs.Names.{label_byte}
 use Rattle.std.proofs.lemmas.Bool.{true≢false, and_parts}
 use Rattle.std.proofs.lemmas.List.{drop-drop, length-drop, length-take}
-use Rattle.smtp.specs.Replies.{Line, width, code_digits, code_of, text_len, crlf_first, text_line, bare_line, line_at, size, front_in, front_by}
+use Rattle.smtp.specs.Replies.{Line, width, code_digits, code_of, text_len, crlf_first, text_line, bare_line, line_at, size, front_in, front_by, front}
 use Rattle.smtp.specs.Keywords.{is_keyword, size_in}
 
--- a line by its first four bytes and what is behind them
-pub line_shape : (s : List ℕ) → line_at s ≡ cond (code_digits (get_or s 0 0) (get_or s 1 0) (get_or s 2 0))
-    (cond (eqb (get_or s 3 0) 45) (text_line (code_of (get_or s 0 0) (get_or s 1 0) (get_or s 2 0)) Hyphen (drop 4 s))
-    (cond (eqb (get_or s 3 0) 32) (text_line (code_of (get_or s 0 0) (get_or s 1 0) (get_or s 2 0)) Blank (drop 4 s))
-    (bare_line (code_of (get_or s 0 0) (get_or s 1 0) (get_or s 2 0)) (drop 3 s)))) None
-line_shape [] = refl
-line_shape (a ∷ []) = grind (arith, nat_tests)
-line_shape (a ∷ b ∷ []) = grind (arith, nat_tests)
-line_shape (a ∷ b ∷ c ∷ []) = grind (arith, nat_tests)
-line_shape (a ∷ b ∷ c ∷ d ∷ s) = refl
-
+-- a keyword by its first byte and what is behind it
 pub keyword_shape : (w : List ℕ) → 0 < length w → is_keyword w ≡ ((letter (get_or w 0 0) || digit (get_or w 0 0)) && all label_byte (drop 1 w))
 keyword_shape [] h = absurd (omega arith)
 keyword_shape (x ∷ w) h = refl
-
-pub no_keyword : (w : List ℕ) → length w ≡ 0 → is_keyword w ≡ false
-no_keyword [] h = refl
-no_keyword (x ∷ w) h = absurd (omega arith)
 
 -- CRLF takes two bytes
 crlf_two : (s : List ℕ) → crlf_first s ≡ true → 2 ≤ length s
@@ -64,20 +50,40 @@ size_within (a ∷ b ∷ c ∷ d ∷ s) =
     let m = bare_size (code_of a b c) (d ∷ s) in
     some_cond (code_digits a b c) _ _ _ (some_cond (eqb d 45) _ _ _ (omega arith) (some_cond (eqb d 32) _ _ _ (omega arith) (omega arith))) (omega arith)
 
--- a line at a place leaves the lines behind it
-pub turn : (n : ℕ) (s : List ℕ) (at : ℕ) (l : Line) → length s ≤ at + n → line_at (drop at s) ≡ Some l →
-    (m : ℕ) × (m + 1 ≡ n) × (front_by n (drop at s) ≡ l ∷ front_by m (drop (at + size l) s))
-turn n s at l h e =
-    let b : size l ≤ length s - at = simp (e, length-drop) at (size_within (drop at s)) in
-    go n h b
-  where
-    go : (n : ℕ) → length s ≤ at + n → size l ≤ length s - at →
-        (m : ℕ) × (m + 1 ≡ n) × (front_by n (drop at s) ≡ l ∷ front_by m (drop (at + size l) s))
-    go zero h b = absurd (omega arith)
-    go (suc m) h b =
-        (m, omega arith, ap (λ (o : Option Line). front_in o (drop at s) (front_by m)) e ∙ ap (λ (t : List ℕ). l ∷ front_by m t) (drop-drop (size l) at s))
+pub size_of : (s : List ℕ) (l : Line) → line_at s ≡ Some l → size l ≤ length s
+size_of s l e = simp e at (size_within s)
+
+-- a line at the front leaves the lines behind it
+pub turn_front : (n : ℕ) (s : List ℕ) (l : Line) → length s ≤ n → line_at s ≡ Some l → (m : ℕ) × (m + 1 ≡ n) × (front_by n s ≡ l ∷ front_by m (drop (size l) s))
+turn_front zero s l h e = let b = size_of s l e in absurd (omega arith)
+turn_front (suc m) s l h e = (m, omega arith, ap (λ (o : Option Line). front_in o s (front_by m)) e)
 
 -- no line at the front, no lines
 pub front_none : (n : ℕ) (s : List ℕ) → line_at s ≡ None → front_by n s ≡ []
 front_none zero s e = refl
 front_none (suc n) s e = ap (λ (o : Option Line). front_in o s (front_by n)) e
+
+-- no bytes, no lines
+pub front_nil : (n : ℕ) → front_by n [] ≡ []
+front_nil zero = refl
+front_nil (suc n) = refl
+
+-- a bound above the length changes nothing
+front_same : (n m : ℕ) (s : List ℕ) → length s ≤ n → length s ≤ m → front_by n s ≡ front_by m s
+front_same n m [] h k = front_nil n ∙ sym (front_nil m)
+front_same zero m (x ∷ s) h k = absurd (omega arith)
+front_same (suc n) zero (x ∷ s) h k = absurd (omega arith)
+front_same (suc n) (suc m) (x ∷ s) h k = go (line_at (x ∷ s)) (λ t a b. front_same n m t a b)
+  where
+    go : (o : Option Line) → ((t : List ℕ) → length t ≤ n → length t ≤ m → front_by n t ≡ front_by m t) → front_in o (x ∷ s) (front_by n) ≡ front_in o (x ∷ s) (front_by m)
+    go None f = refl
+    go (Some l) f =
+        let e = length-drop (size l) (x ∷ s) in
+        ap (λ (t : List Line). l ∷ t) (f (drop (size l) (x ∷ s)) (omega arith) (omega arith))
+
+-- the lines at a place: the one there, and those behind it
+pub front_more : (s : List ℕ) (at : ℕ) (l : Line) → line_at (drop at s) ≡ Some l → front (drop at s) ≡ l ∷ front (drop (at + size l) s)
+front_more s at l e =
+    let (m, x, f) = turn_front (length (drop at s)) (drop at s) l (le_refl _) e in
+    let k : length (drop (at + size l) s) ≤ m = omega (arith, length-drop at s, length-drop (at + size l) s) in
+    f ∙ ap (λ (t : List ℕ). l ∷ front_by m t) (drop-drop (size l) at s) ∙ ap (λ (t : List Line). l ∷ t) (front_same m (length (drop (at + size l) s)) (drop (at + size l) s) k (le_refl _))

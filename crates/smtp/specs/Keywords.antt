@@ -56,6 +56,12 @@ seen (Greeting text place) = greeting text.now place
 seen (Keyword word place alone) = keyword word.now place alone
 seen (Other text place) = other text.now place
 
+-- whether what is handed out of a line is a word alone on it, in any letter case
+abbrev pub lists_part : List ℕ → Part → Bool
+lists_part word (greeting text place) = false
+lists_part word (keyword found place alone) = alone && same found word
+lists_part word (other text place) = false
+
 -- a line lists a word that stands alone on it and is a keyword, in any letter case
 abbrev pub lists_word : List ℕ → Line → Bool
 lists_word word l = is_keyword l.text && same l.text word

@@ -1,4 +1,3 @@
-pub mod Alphabets
 pub mod Bytes
 pub mod Keywords
 pub mod Names

@@ -1,5 +1,6 @@
 -- SMTP replies (RFC 5321 section 4.2): lines of a code, a separator and text, read off the bytes.
 use Rattle.std.specs.Prelude.{ℕ, zero, suc, ◌+◌, ◌-◌, ◌*◌, Bool, true, false, cond, not, ◌&&◌, ◌||◌, List, [], ◌∷◌, length, take, drop, Some, None, Option, ◌==◌, nat_eq, nat_le, slice_index}
+use Rattle.std.specs.List.{prefix_len}
 use Rattle.smtp.specs.declared.reply_line.Separator.{Separator}
 use Rattle.smtp.specs.declared.reply_line.Separator.TheVariants.{Hyphen, Blank, Missing}
 use Rattle.smtp.specs.Bytes.{within, all}
@@ -41,8 +42,7 @@ size l = 3 + width l.separator + length l.text + 2
 
 -- how many bytes of text stand at the front
 abbrev pub text_len : List ℕ → ℕ
-text_len [] = 0
-text_len (x ∷ s) = cond (text_byte x) (suc (text_len s)) 0
+text_len s = prefix_len text_byte s
 
 -- CRLF stands at the front
 abbrev pub crlf_first : List ℕ → Bool

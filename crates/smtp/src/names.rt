@@ -1,65 +1,41 @@
-ghost use Rattle.std.specs.Prelude.{◌≡◌, ℕ, ◌+◌, ◌<◌, ◌≤◌, length};
-ghost use Rattle.smtp.specs.Bytes.{some};
+ghost use Rattle.std.specs.Prelude.{◌≡◌, ℕ, Bool, ◌+◌, ◌<◌, ◌≤◌, length};
+ghost use Rattle.smtp.specs.Bytes.{some, Computes};
 ghost use Rattle.smtp.specs.Parts.{first_part, parts};
-ghost use Rattle.smtp.specs.Names.{dotted, host_name, address, wild, covered, covers_name, names_cover};
+ghost use Rattle.smtp.specs.Names.{atom_byte, word, dotted, host_name, address, wild, covered, covers_name, names_cover};
 ghost use Rattle.smtp.specs.NamesHold.{NamesHold};
-ghost use Rattle.smtp.specs.Alphabets.{kind_of};
 
-use crate::bytes::{
-    ByteKind, from, is_digit, is_label_byte, is_letter, lower, part_len, same_word, upto,
-};
+use crate::bytes::{from, is_label_byte, part_len, same_word, upto};
 
-// The bytes that a word may be made of.
-#[derive(Clone, Copy)]
-pub enum Alphabet {
-    // letters, digits and hyphens: the labels of a host name
-    Label,
-    // RFC 5321's atext: the atoms of a dot-string
-    Atom,
-}
-
-impl ByteKind for Alphabet {
-    ghost holds = { kind_of };
-
-    fn has(self, b: u8) -> bool {
-        match self {
-            Alphabet::Label => is_label_byte(b),
-            Alphabet::Atom => {
-                is_letter(b)
-                    || is_digit(b)
-                    || matches!(b, b'!' | b'#'..=b'\'' | b'*' | b'+' | b'-' | b'/' | b'=' | b'?' | b'^'..=b'`' | b'{'..=b'~')
-            }
-        }
-    }
-}
-
-// Whether a text is words of 1 to `most` bytes of one alphabet, joined by dots.
-fn is_dotted(s: &[u8], alphabet: Alphabet, most: usize) -> bool
-    ensures { result ≡ dotted (kind_of alphabet) most s.now }
+// Whether a byte may stand in an atom: a letter, a digit, or one of RFC 5321's other bytes of atext.
+fn is_atom_byte(b: u8) -> bool
+    ensures { result ≡ atom_byte b }
 {
-    // the length of the word so far
-    let mut n: usize = 0;
-    for b in s {
-        if *b == b'.' {
-            if n == 0 || n > most {
-                return false;
-            }
-            n = 0;
-        } else {
-            if !alphabet.has(*b) {
-                return false;
-            }
-            n += 1;
-        }
-    }
-    n > 0 && n <= most
+    b.is_ascii_alphanumeric()
+        || matches!(b, b'!' | b'#'..=b'\'' | b'*' | b'+' | b'-' | b'/' | b'=' | b'?' | b'^'..=b'`' | b'{'..=b'~')
+}
+
+// Whether a word is 1 to `most` bytes that pass a test.
+fn is_word<F: Fn(u8) -> bool>(s: &[u8], most: usize, is_in: &F) -> bool
+    requires { F.IsAlwaysCallable is_in.now }
+    ensures { (test : ℕ → Bool) → Computes (F.post is_in.now) test → result ≡ word test most s.now }
+{
+    !s.is_empty() && s.len() <= most && s.iter().all(|b| is_in(*b))
+}
+
+// Whether a text is words of 1 to `most` bytes that pass a test, joined by dots.
+fn is_dotted<F: Fn(u8) -> bool>(s: &[u8], most: usize, is_in: F) -> bool
+    requires { F.IsAlwaysCallable is_in }
+    ensures { (test : ℕ → Bool) → Computes (F.post is_in) test → result ≡ dotted test most s.now }
+{
+    s.split(|b| *b == b'.')
+        .all(|word| is_word(word, most, &is_in))
 }
 
 // Whether a text is a host name: labels of 1 to 63 letters, digits and hyphens, joined by dots, at most 253 bytes.
 pub fn is_host_name(s: &[u8]) -> bool
     ensures { result ≡ host_name s.now }
 {
-    s.len() <= 253 && is_dotted(s, Alphabet::Label, 63)
+    s.len() <= 253 && is_dotted(s, 63, is_label_byte)
 }
 
 // Whether a text is a mail address: a dot-string of 1 to 64 bytes, an at sign, a host name.
@@ -69,7 +45,7 @@ pub fn is_address(s: &[u8]) -> bool
     let n = part_len(s, b'@');
     n <= 64
         && n < s.len()
-        && is_dotted(upto(s, n), Alphabet::Atom, 64)
+        && is_dotted(upto(s, n), 64, is_atom_byte)
         && is_host_name(from(s, n + 1))
 }
 
@@ -96,11 +72,13 @@ fn some_covers(text: &[u8], host: &[u8], dot: usize) -> bool
     requires { dot ≡ length (first_part 46 host.now) }
     ensures { result ≡ some (λ pattern. covered pattern host.now) (parts 32 text.now) }
 {
+    // By index: the project asks for this form here, two nested loops over the names and over their bytes, both left by a label at the
+    // first cover.
     let mut found = false;
     let mut at = 0;
     'names: while at <= text.len() {
         // a star stands for the host's first label
-        let starred = at + 1 < text.len() && text[at] == b'*' && text[at + 1] == b'.';
+        let starred = from(text, at).starts_with(b"*.");
         let mut i = if starred { at + 1 } else { at };
         let mut k = if starred { dot } else { 0 };
         let mut same = true;
@@ -112,7 +90,7 @@ fn some_covers(text: &[u8], host: &[u8], dot: usize) -> bool
                 }
                 break 'bytes;
             }
-            if k < host.len() && lower(text[i]) == lower(host[k]) {
+            if k < host.len() && text[i].eq_ignore_ascii_case(&host[k]) {
                 k += 1;
             } else {
                 same = false;

@@ -6,35 +6,35 @@ ghost use Rattle.smtp.specs.Refusals.{number_of};
 #[derive(Clone, Copy, PartialEq, Eq, Debug)]
 pub enum Refusal {
     // a MAIL line above 523 bytes, its CRLF counted
-    MailLineTooLong,
+    MailLineTooLong = 1,
     // a MAIL line that breaks its form
-    MailLineForm,
+    MailLineForm = 2,
     // an option of a MAIL line, or its value, that is not known
-    UnknownOption,
+    UnknownOption = 3,
     // one option of a MAIL line twice
-    RepeatedOption,
+    RepeatedOption = 4,
     // REQUIRETLS on a MAIL line that came without TLS
-    RequireTlsInClear,
+    RequireTlsInClear = 5,
     // two or more TLS-Required fields in a well-formed header section, without the option
-    RepeatedTlsRequired,
+    RepeatedTlsRequired = 6,
     // no host or over 16 of them, a part outside the host text, an ill-formed host name, no such host number
-    BadHost,
+    BadHost = 7,
     // an own name, path or recipient that is ill-formed
-    BadAddress,
+    BadAddress = 8,
     // content or a header section that breaks its form
-    BadContent,
+    BadContent = 9,
     // a MAIL buffer under 523 bytes, work under 48,000, reply under 4,096, note under 32,768, or fewer trials than hosts
-    ShortBuffer,
+    ShortBuffer = 10,
     // a line in the wrong standing or visit; for relay and return, a line that is not closed
-    WrongStanding,
+    WrongStanding = 11,
     // no room on the line; for relay and return, room below the need
-    NoRoom,
+    NoRoom = 12,
     // a policy text that breaks its form
-    BadPolicy,
+    BadPolicy = 13,
     // a sheet that breaks its form
-    BadSheet,
+    BadSheet = 14,
     // a house host whose trust is above 2, or whose code is not 250, 450 or 550
-    BadHouseHost,
+    BadHouseHost = 15,
 }
 
 impl Refusal {
@@ -42,22 +42,6 @@ impl Refusal {
     pub fn number(self) -> u8
         ensures { result ≡ number_of self }
     {
-        match self {
-            Refusal::MailLineTooLong => 1,
-            Refusal::MailLineForm => 2,
-            Refusal::UnknownOption => 3,
-            Refusal::RepeatedOption => 4,
-            Refusal::RequireTlsInClear => 5,
-            Refusal::RepeatedTlsRequired => 6,
-            Refusal::BadHost => 7,
-            Refusal::BadAddress => 8,
-            Refusal::BadContent => 9,
-            Refusal::ShortBuffer => 10,
-            Refusal::WrongStanding => 11,
-            Refusal::NoRoom => 12,
-            Refusal::BadPolicy => 13,
-            Refusal::BadSheet => 14,
-            Refusal::BadHouseHost => 15,
-        }
+        self as u8
     }
 }

@@ -1,11 +1,11 @@
-ghost use Rattle.std.specs.Prelude.{◌≡◌, ℕ, ◌+◌, ◌-◌, ◌<◌, ◌≤◌, length};
+ghost use Rattle.std.specs.Prelude.{◌≡◌, ℕ, IsTrue, ◌+◌, ◌-◌, ◌<◌, ◌≤◌, length};
 ghost use Rattle.std.specs.Option.{option_map};
-ghost use Rattle.smtp.specs.Read.{held, read_reply};
+ghost use Rattle.smtp.specs.Replies.{well_formed, reply_code};
 ghost use Rattle.smtp.specs.RepliesHold.{RepliesHold};
 ghost use Rattle.smtp.specs.Keywords.{listed, part_at, next_at, seen};
 ghost use Rattle.std.specs.Iterator.{at_most};
 
-use crate::bytes::{from, same_word};
+use crate::bytes::from;
 use crate::reply_line::{ReplyLine, line_at};
 
 // A well-formed reply: lines of at most 512 bytes with CRLF, each of three digits, a hyphen, or on the last line a blank or nothing,
@@ -14,25 +14,28 @@ use crate::reply_line::{ReplyLine, line_at};
 pub struct Reply<'r> {
     bytes: &'r [u8],
     code: u16,
+    ghost well_formed: { IsTrue (well_formed bytes.now) },
+    ghost one_code: { code ≡ reply_code bytes.now },
 }
 
 impl<'r> Reply<'r> {
+    ghost use Rattle.smtp.specs.Read.{held, read_reply};
+
     // Reads a reply; none where it is malformed.
     pub fn read(bytes: &'r [u8]) -> Option<Reply<'r>>
         ensures { option_map held result ≡ read_reply bytes.now }
     {
         let first = line_at(bytes)?;
-        let mut at = first.size();
-        let mut last = first.separator.is_last();
-        while !last {
-            let line = line_at(from(bytes, at))?;
+        let mut line = first;
+        let mut rest = from(bytes, first.size());
+        while !line.separator.is_last() {
+            line = line_at(rest)?;
             if line.code != first.code {
                 return None;
             }
-            at += line.size();
-            last = line.separator.is_last();
+            rest = from(rest, line.size());
         }
-        if at != bytes.len() {
+        if !rest.is_empty() {
             return None;
         }
         Some(Reply {
@@ -63,23 +66,11 @@ impl<'r> Reply<'r> {
     pub fn lists(&self, word: &[u8]) -> bool
         ensures { result ≡ listed self.now.bytes.now word.now }
     {
-        for line in self.lines() {
-            if let ReplyLine::Keyword {
-                word: listed,
-                alone,
-                ..
-            } = line
-            {
-                if alone && same_word(listed, word) {
-                    return true;
-                }
-            }
-        }
-        false
+        self.lines().any(|line| line.lists(word))
     }
 }
 
-// The lines of a reply that are still to be handed out: those from the place `at` on.
+// The lines of a reply that are still to be handed out: those from the place `at` on. By place: each is handed out with its place in the reply.
 #[derive(Drop)]
 pub struct ReplyLines<'r> {
     bytes: &'r [u8],

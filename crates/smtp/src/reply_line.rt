@@ -2,10 +2,9 @@ ghost use Rattle.std.specs.Prelude.{◌≡◌, ℕ, ◌+◌, ◌-◌, ◌^◌, �
 ghost use Rattle.std.specs.Option.{option_map};
 ghost use Rattle.smtp.specs.Replies.{text_byte, text_len, crlf_first, digits_code, text_line, bare_line, line_at, is_last, width, size};
 ghost use Rattle.smtp.specs.WireLines.{line_of};
-ghost use Rattle.smtp.specs.Keywords.{is_keyword, listing, part_of, seen, size_in};
+ghost use Rattle.smtp.specs.Keywords.{is_keyword, listing, lists_part, part_of, seen, size_in};
 
-use crate::bytes::{are_all, from, is_digit, is_letter, part_len, upto};
-use crate::names::Alphabet;
+use crate::bytes::{from, is_label_byte, part_len, same_word, upto};
 
 // What stands between a line's code and its text.
 #[derive(Clone, Copy)]
@@ -22,10 +21,7 @@ impl Separator {
     pub(crate) fn is_last(self) -> bool
         ensures { result ≡ is_last self }
     {
-        match self {
-            Separator::Hyphen => false,
-            Separator::Blank | Separator::Missing => true,
-        }
+        matches!(self, Separator::Blank | Separator::Missing)
     }
 
     pub(crate) fn width(self) -> usize
@@ -59,6 +55,22 @@ pub enum ReplyLine<'r> {
     },
 }
 
+impl ReplyLine<'_> {
+    // Whether it is the word alone on a line, in any letter case.
+    pub(crate) fn lists(&self, word: &[u8]) -> bool
+        ensures { result ≡ lists_part word.now (seen self.now) }
+    {
+        match self {
+            ReplyLine::Keyword {
+                word: found,
+                alone,
+                ..
+            } => *alone && same_word(found, word),
+            _ => false,
+        }
+    }
+}
+
 // A line as it stands in the reply, without its CRLF.
 #[derive(Clone, Copy)]
 pub(crate) struct WireLine<'r> {
@@ -78,12 +90,7 @@ fn text_len(s: &[u8]) -> usize
     ensures is { result ≡ text_len s.now }
     ensures within { result ≤ length s.now }
 {
-    for i in 0..s.len() {
-        if !is_text_byte(s[i]) {
-            return i;
-        }
-    }
-    s.len()
+    s.iter().take_while(|b| is_text_byte(**b)).count()
 }
 
 // The code of three digits, if they are 2 to 5, 0 to 5 and 0 to 9.
@@ -102,7 +109,7 @@ fn code_of(a: u8, b: u8, c: u8) -> Option<u16>
 fn is_crlf(s: &[u8]) -> bool
     ensures { result ≡ crlf_first s.now }
 {
-    s.len() > 1 && s[0] == b'\r' && s[1] == b'\n'
+    s.starts_with(b"\r\n")
 }
 
 // The line whose text begins here and ends at CRLF. With CRLF a line has at most 512 bytes.
@@ -110,30 +117,22 @@ fn text_line<'r>(code: u16, separator: Separator, s: &'r [u8]) -> Option<WireLin
     ensures { option_map line_of result ≡ text_line code separator s.now }
 {
     let n = text_len(s);
-    if is_crlf(from(s, n)) && n <= 506 {
-        Some(WireLine {
-            code,
-            separator,
-            text: upto(s, n),
-        })
-    } else {
-        None
-    }
+    (is_crlf(from(s, n)) && n <= 506).then_some(WireLine {
+        code,
+        separator,
+        text: upto(s, n),
+    })
 }
 
 // The line of a code alone, behind which CRLF stands.
 fn bare_line<'r>(code: u16, s: &'r [u8]) -> Option<WireLine<'r>>
     ensures { option_map line_of result ≡ bare_line code s.now }
 {
-    if is_crlf(s) {
-        Some(WireLine {
-            code,
-            separator: Separator::Missing,
-            text: upto(s, 0),
-        })
-    } else {
-        None
-    }
+    is_crlf(s).then_some(WireLine {
+        code,
+        separator: Separator::Missing,
+        text: upto(s, 0),
+    })
 }
 
 // The line at the front: three digits (2 to 5, 0 to 5, 0 to 9), then a hyphen or a blank and text, or nothing.
@@ -156,11 +155,12 @@ pub(crate) fn line_at<'r>(s: &'r [u8]) -> Option<WireLine<'r>>
 fn is_keyword(word: &[u8]) -> bool
     ensures { result ≡ is_keyword word.now }
 {
-    if word.is_empty() {
-        return false;
+    match word {
+        [first, rest @ ..] => {
+            first.is_ascii_alphanumeric() && rest.iter().all(|b| is_label_byte(*b))
+        }
+        [] => false,
     }
-    let first = word[0];
-    (is_letter(first) || is_digit(first)) && are_all(from(word, 1), Alphabet::Label)
 }
 
 // A line that is not the first, by its text and the text's place: the keyword that the text starts with, or the text.

@@ -1,3 +1,4 @@
+pub mod Ages
 pub mod Held
 pub mod Lettered
 pub mod Lined

@@ -1,32 +1,44 @@
 -- A policy text taken line by line.
-use Rattle.std.proofs.Common.{◌≡◌, ℕ, zero, suc, ◌+◌, ◌-◌, ◌<◌, ◌≤◌, Bool, true, false, cond, ◌&&◌, List, [], ◌∷◌, ◌++◌, length, get_or, take, drop, sym, refl, ap, ◌∙◌, arith}
+use Rattle.std.proofs.Common.{◌≡◌, ℕ, ◌+◌, ◌-◌, ◌<◌, ◌≤◌, Bool, true, false, cond, ◌&&◌, ◌||◌, leb, List, [], ◌∷◌, ◌++◌, length, get_or, take, drop, eqb, sym, refl, ap, ◌∙◌, le_refl, arith}
 use Rattle.std.proofs.lemmas.Bool.Decides.{nat_tests}
 use Rattle.std.proofs.lemmas.List.{take_all, drop_all, take_more}
-use Rattle.std.proofs.lemmas.Bool.{eq-eqb, ne_eqb}
+use Rattle.std.proofs.lemmas.List.Folds.{list_all-append}
+use Rattle.std.proofs.Math.Bool.{and-true}
 use Rattle.smtp.specs.Parts.{first_part, other_parts, parts, behind_first}
 use Rattle.smtp.proofs.Parted.{part_len, take_first, drop_behind}
-use Rattle.voucher.specs.PolicyLines.{without_cr, last_line, ended, lines, blank, untrailed}
-use Rattle.smtp.specs.Bytes.{all}
+use Rattle.smtp.specs.Bytes.{letter, digit}
+use Rattle.voucher.specs.declared.policy_lines.Field.{Field}
+use Rattle.voucher.specs.declared.policy_lines.Fields.{Fields}
+use Rattle.voucher.specs.PolicyLines.{without_cr, last_line, ended, lines, blank, untrailed, key_byte, is_key}
+use Rattle.std.specs.Iterator.{YieldsFirstBy}
+use Rattle.std.proofs.lemmas.Iterator.{YieldsList}
+use Rattle.std.proofs.lemmas.Iterator.Consumers.{YieldsList-from_first}
+use Rattle.std.specs.List.{list_all}
 
--- a line that ends in CR
-pub cr_last : (s : List ℕ) (n : ℕ) → length s ≡ suc n → get_or s n 0 ≡ 13 → without_cr s ≡ take n s
-cr_last [] n h e = absurd (omega arith)
-cr_last (x ∷ []) zero h e = ap (λ (b : Bool). cond b [] (x ∷ [])) (eq-eqb x 13 e)
-cr_last (x ∷ []) (suc n) h e = absurd (omega arith)
-cr_last (x ∷ (y ∷ s)) zero h e = absurd (omega arith)
-cr_last (x ∷ (y ∷ s)) (suc n) h e = ap (λ (t : List ℕ). x ∷ t) (cr_last (y ∷ s) n (omega arith) e)
+-- a text is its front and its last byte
+split_last : (s : List ℕ) → 0 < length s → take (length s - 1) s ++ get_or s (length s - 1) 0 ∷ [] ≡ s
+split_last s h =
+    let e : length s - 1 + 1 ≡ length s = omega arith in
+    sym (take_more s (length s - 1) 0 (omega arith)) ∙ ap (λ (n : ℕ). take n s) e ∙ take_all (length s) s (le_refl _)
 
--- a line that does not
-pub cr_none : (s : List ℕ) (n : ℕ) → length s ≡ suc n → (get_or s n 0 ≡ 13 → ⊥) → s ≡ without_cr s
-cr_none [] n h e = refl
-cr_none (x ∷ []) zero h e = sym (ap (λ (b : Bool). cond b [] (x ∷ [])) (ne_eqb x 13 e))
-cr_none (x ∷ []) (suc n) h e = absurd (omega arith)
-cr_none (x ∷ (y ∷ s)) zero h e = absurd (omega arith)
-cr_none (x ∷ (y ∷ s)) (suc n) h e = ap (λ (t : List ℕ). x ∷ t) (cr_none (y ∷ s) n (omega arith) e)
+-- a line that ends in CR, and one that does not
+pub one_cr : (s : List ℕ) → without_cr (s ++ 13 ∷ []) ≡ s
+one_cr [] = refl
+one_cr (x ∷ []) = refl
+one_cr (x ∷ (y ∷ s)) = ap (λ (t : List ℕ). x ∷ t) (one_cr (y ∷ s))
 
-pub cr_short : (s : List ℕ) → length s ≡ 0 → s ≡ without_cr s
-cr_short [] h = refl
-cr_short (x ∷ s) h = absurd (omega arith)
+no_cr : (s : List ℕ) (x : ℕ) → eqb x 13 ≡ false → without_cr (s ++ x ∷ []) ≡ s ++ x ∷ []
+no_cr [] x h = ap (λ (b : Bool). cond b [] (x ∷ [])) h
+no_cr (y ∷ []) x h = ap (λ (b : Bool). y ∷ cond b [] (x ∷ [])) h
+no_cr (y ∷ (z ∷ s)) x h = ap (λ (t : List ℕ). y ∷ t) (no_cr (z ∷ s) x h)
+
+pub cr_last : (s : List ℕ) → 0 < length s → get_or s (length s - 1) 0 ≡ 13 → without_cr s ≡ take (length s - 1) s
+cr_last s h e =
+    let f = take (length s - 1) s in
+    sym (ap without_cr (split_last s h)) ∙ ap (λ (x : ℕ). without_cr (f ++ x ∷ [])) e ∙ one_cr f
+
+pub cr_none : (s : List ℕ) → 0 < length s → eqb (get_or s (length s - 1) 0) 13 ≡ false → without_cr s ≡ s
+cr_none s h e = let p = split_last s h in sym (ap without_cr p) ∙ no_cr (take (length s - 1) s) (get_or s (length s - 1) 0) e ∙ p
 
 -- where LF ends the first part, the others are the parts of what stands behind it
 others_more : (s : List ℕ) → part_len 10 s < length s → other_parts 10 s ≡ parts 10 (behind_first 10 s)
@@ -68,41 +80,28 @@ unfolding lines
 lines_none [] h = refl
 lines_none (x ∷ s) h = absurd (omega arith)
 
--- a blank more at the end
+-- a blank more at the end, and another byte
 untrailed_blank : (s : List ℕ) (x : ℕ) → blank x ≡ true → untrailed (s ++ x ∷ []) ≡ untrailed s
-untrailed_blank [] x h = let e : all blank (x ∷ []) ≡ true = ap (λ (b : Bool). b && true) h in ap (λ (b : Bool). cond b [] (x ∷ [])) e
-untrailed_blank (y ∷ s) x h =
-    let e = untrailed_blank s x h in
-    let f : all blank (s ++ x ∷ []) ≡ all blank s = all_blank s x h in
-    ap (λ (b : Bool). cond (blank y && b) [] (y ∷ untrailed (s ++ x ∷ []))) f ∙ ap (λ (t : List ℕ). cond (blank y && all blank s) [] (y ∷ t)) e
-  where
-    all_blank : (t : List ℕ) (z : ℕ) → blank z ≡ true → all blank (t ++ z ∷ []) ≡ all blank t
-    all_blank [] z k = ap (λ (b : Bool). b && true) k
-    all_blank (u ∷ t) z k = ap (λ (b : Bool). blank u && b) (all_blank t z k)
+untrailed_blank [] x h = ap (λ (b : Bool). cond (b && true) [] (x ∷ [])) h
+untrailed_blank (y ∷ s) x h = let e = untrailed_blank s x h in let f = list_all-append blank s (x ∷ []) in grind (arith, and-true)
 
--- another byte at the end
 untrailed_other : (s : List ℕ) (x : ℕ) → blank x ≡ false → untrailed (s ++ x ∷ []) ≡ s ++ x ∷ []
 untrailed_other [] x h = ap (λ (b : Bool). cond (b && true) [] (x ∷ [])) h
-untrailed_other (y ∷ s) x h =
-    let e = untrailed_other s x h in
-    let f = not_blank (blank y) s x h in
-    ap (λ (b : Bool). cond b [] (y ∷ untrailed (s ++ x ∷ []))) f ∙ ap (λ (t : List ℕ). y ∷ t) e
-  where
-    not_blank : (b : Bool) (t : List ℕ) (z : ℕ) → blank z ≡ false → (b && all blank (t ++ z ∷ [])) ≡ false
-    not_blank false t z k = refl
-    not_blank true [] z k = ap (λ (c : Bool). c && true) k
-    not_blank true (u ∷ t) z k = not_blank (blank u) t z k
+untrailed_other (y ∷ s) x h = let e = untrailed_other s x h in let f = list_all-append blank s (x ∷ []) in grind (arith, and-true)
 
-front_more : (s : List ℕ) (n : ℕ) → 0 < n → n ≤ length s → take n s ≡ take (n - 1) s ++ get_or s (n - 1) 0 ∷ []
-front_more s n h k = let e : n - 1 + 1 ≡ n = omega arith in ap (λ (m : ℕ). take m s) (sym e) ∙ take_more s (n - 1) 0 (omega arith)
+-- a text that ends in a blank, and one that does not
+pub blank_last : (s : List ℕ) → 0 < length s → blank (get_or s (length s - 1) 0) ≡ true → untrailed s ≡ untrailed (take (length s - 1) s)
+blank_last s h b = sym (ap untrailed (split_last s h)) ∙ untrailed_blank (take (length s - 1) s) (get_or s (length s - 1) 0) b
 
--- a front that ends in a blank, and one that does not
-pub front_blank : (s : List ℕ) (n : ℕ) → 0 < n → n ≤ length s → blank (get_or s (n - 1) 0) ≡ true → untrailed (take (n - 1) s) ≡ untrailed (take n s)
-front_blank s n h k b = sym (ap untrailed (front_more s n h k) ∙ untrailed_blank (take (n - 1) s) (get_or s (n - 1) 0) b)
+pub blank_none : (s : List ℕ) → 0 < length s → blank (get_or s (length s - 1) 0) ≡ false → untrailed s ≡ s
+blank_none s h b = let p = split_last s h in sym (ap untrailed p) ∙ untrailed_other (take (length s - 1) s) (get_or s (length s - 1) 0) b ∙ p
 
-pub front_other : (s : List ℕ) (n : ℕ) → 0 < n → n ≤ length s → blank (get_or s (n - 1) 0) ≡ false → take n s ≡ untrailed (take n s)
-front_other s n h k b = let e = front_more s n h k in e ∙ sym (ap untrailed e ∙ untrailed_other (take (n - 1) s) (get_or s (n - 1) 0) b)
+-- a key by its first byte and the others
+pub is_key_cut : (s : List ℕ) → 0 < length s →
+    is_key s ≡ ((letter (get_or s 0 0) || digit (get_or s 0 0)) && (leb (length s - 1) 31 && list_all key_byte (take (length s - 1) (drop 1 s))))
+is_key_cut [] h = absurd (omega arith)
+is_key_cut (x ∷ s) h = let e = take_all (length s) s (le_refl _) in grind (arith, nat_tests)
 
-pub front_none : (s : List ℕ) (n : ℕ) → n ≤ 0 → take n s ≡ untrailed (take n s)
-front_none s zero h = refl
-front_none s (suc n) h = absurd (omega arith)
+-- the fields of a text are its lines, cut
+pub fields_are : (s : Fields) (text : List ℕ) → s.rest.now ≡ text → YieldsList (YieldsFirstBy (λ (f : Field). f.line.now) (λ (t : Fields). lines t.rest.now)) (λ f. f.line.now) s (lines text)
+fields_are s text e = YieldsList-from_first (λ f. f.line.now) (λ t. lines t.rest.now) (lines text) (ap lines e)

@@ -1,58 +1,36 @@
 -- A policy read by its lines, and the names that it vouches for.
-use Rattle.std.proofs.Common.{◌≡◌, ℕ, ◌+◌, ◌-◌, ◌*◌, ◌<◌, ◌≤◌, Bool, true, false, ◌&&◌, ◌||◌, leb, List, [], ◌∷◌, length, get_or, drop, codes, sym, refl, ap, ◌∙◌, arith}
+use Rattle.std.proofs.Common.{◌≡◌, ℕ, ◌&&◌, Option, Some, None, List, [], ◌∷◌, length, get_or, sym, refl, ap, ◌∙◌, arith}
+use Rattle.std.proofs.Math.Bool.{and-false}
+use Rattle.std.proofs.lemmas.Bool.Decides.{nat_tests}
 use Rattle.std.specs.Str.{bytes_eq}
-use Rattle.std.proofs.lemmas.List.{at_drop_more, at_drop_all}
-use Rattle.std.proofs.lemmas.Bool.{lt-leb}
-use Rattle.smtp.specs.Bytes.{digit, all, some}
-use Rattle.smtp.specs.Names.{host_name, covered}
+use Rattle.std.specs.List.{list_any, find}
+use Rattle.std.specs.Option.{option_map}
+use Rattle.std.proofs.lemmas.List.FromFn.{fill_by_all}
+use Rattle.smtp.specs.Names.{host_name}
+use Rattle.voucher.specs.declared.policy_lines.Field.{Field}
 use Rattle.voucher.specs.PolicyLines.{key, value}
-use Rattle.voucher.specs.Policy.{number_from, mx_covers}
+use Rattle.voucher.specs.Policy.{first_of, mode_named, mx_covers}
 use Rattle.voucher.specs.Voucher.{lower}
 use Rattle.voucher.proofs.Lettered.{covers_lower}
 
--- digits left to read, behind those that wrote n
-abbrev pub age_from : ℕ → List ℕ → Bool
-age_from n s = all digit s && leb (number_from n s) 31557600
-
-pub age_more : (n : ℕ) (s : List ℕ) (i : ℕ) → i < length s →
-    age_from n (drop i s) ≡ ((digit (get_or s i 0) && all digit (drop (i + 1) s)) && leb (number_from (n * 10 + (get_or s i 0 - 48)) (drop (i + 1) s)) 31557600)
-age_more n s i h = at_drop_more (age_from n) s i 0 h
-
-pub age_all : (n : ℕ) (s : List ℕ) (i : ℕ) → length s ≤ i → age_from n (drop i s) ≡ leb n 31557600
-age_all n s i h = at_drop_all (age_from n) s i h
-
-number_grows : (n : ℕ) (s : List ℕ) → n ≤ number_from n s
-number_grows n [] = omega arith
-number_grows n (x ∷ s) = let e = number_grows (n * 10 + (x - 48)) s in omega arith
-
--- digits that wrote too much
-pub age_over : (n : ℕ) (s : List ℕ) → 31557600 < n → leb (number_from n s) 31557600 ≡ false
-age_over n s h = let e = number_grows n s in lt-leb (number_from n s) 31557600 (omega arith)
-
--- a policy may be asked for a name in small letters
-mx_lower : (name l : List ℕ) → mx_covers (lower name) l ≡ mx_covers name l
-mx_lower name l = ap (λ (b : Bool). bytes_eq (key l) (codes "mx") && b) (covers_lower (value l) name)
-
-some_lower : (name : List ℕ) (ls : List (List ℕ)) → some (mx_covers (lower name)) ls ≡ some (mx_covers name) ls
-some_lower name [] = refl
-some_lower name (l ∷ ls) =
-    ap (λ (b : Bool). b || some (mx_covers (lower name)) ls) (mx_lower name l) ∙ ap (λ (b : Bool). mx_covers name l || b) (some_lower name ls)
-
--- only host names are covered
-host_first : (name : List ℕ) (ls : List (List ℕ)) → some (mx_covers name) ls ≡ (host_name name && some (mx_covers name) ls)
-host_first name ls = by (host_name name) ls
+-- the value of the first field with a key
+pub first_found : (k : List ℕ) (ls : List (List ℕ)) (o : Option Field) → option_map (λ f. f.line.now) o ≡ find (λ l. bytes_eq (key l) k) ls → option_map (λ f. f.value.now) o ≡ first_of k ls
+first_found k ls o h = of_line o ∙ ap (option_map value) h ∙ found k ls
   where
-    none : (a : Bool) → (a && false) ≡ false
-    none true = refl
-    none false = refl
+    of_line : (p : Option Field) → option_map (λ f. f.value.now) p ≡ option_map value (option_map (λ f. f.line.now) p)
+    of_line None = refl
+    of_line (Some f) = ap Some f.valued
 
-    by : (b : Bool) (ks : List (List ℕ)) →
-        some (λ l. bytes_eq (key l) (codes "mx") && (b && covered (value l) name)) ks
-        ≡ (b && some (λ l. bytes_eq (key l) (codes "mx") && (b && covered (value l) name)) ks)
-    by true ks = refl
-    by false [] = refl
-    by false (k ∷ ks) =
-        ap (λ (a : Bool). a || some (λ l. bytes_eq (key l) (codes "mx") && (false && covered (value l) name)) ks) (none (bytes_eq (key k) (codes "mx"))) ∙ by false ks
+    found : (q : List ℕ) (ks : List (List ℕ)) → option_map value (find (λ l. bytes_eq (key l) q) ks) ≡ first_of q ks
+    found q [] = refl
+    found q (l ∷ ks) = let e = found q ks in grind (arith, nat_tests)
 
-pub covers_held : (name : List ℕ) (ls : List (List ℕ)) → some (mx_covers name) ls ≡ (host_name name && some (mx_covers (lower name)) ls)
-covers_held name ls = host_first name ls ∙ ap (λ (b : Bool). host_name name && b) (sym (some_lower name ls))
+-- a mode's name of seven bytes, byte by byte
+pub named_by_seven : (s : List ℕ) → length s ≡ 7 →
+    mode_named s ≡ mode_named (get_or s 0 0 ∷ (get_or s 1 0 ∷ (get_or s 2 0 ∷ (get_or s 3 0 ∷ (get_or s 4 0 ∷ (get_or s 5 0 ∷ (get_or s 6 0 ∷ [])))))))
+named_by_seven s h = ap mode_named (fill_by_all (λ k. get_or s k 0) s 7 0 h (λ k l. refl))
+
+-- only host names are covered, and a policy may be asked for a name in small letters
+pub covers_held : (name : List ℕ) (ls : List (List ℕ)) → list_any (mx_covers name) ls ≡ (host_name name && list_any (mx_covers (lower name)) ls)
+covers_held name [] = sym (and-false (host_name name))
+covers_held name (l ∷ ls) = let e = covers_held name ls in let c = covers_lower (value l) name in grind (arith, nat_tests)

@@ -1,7 +1,8 @@
 -- What holds of every voucher, and the definitions at examples: the policies that RFC 8461 prints, and what their form turns down.
 use Rattle.std.specs.Prelude.{◌≡◌, ℕ, ◌<◌, Bool, true, false, not, ◌||◌, List, [], ◌∷◌, ◌++◌, length, Some, None, codes, Option, ◌==◌}
 use Prim.Native.String.{String}
-use Rattle.smtp.specs.Bytes.{same, all}
+use Rattle.std.specs.List.{list_all}
+use Rattle.smtp.specs.Bytes.{same}
 use Rattle.smtp.specs.Names.{host_name}
 use Rattle.voucher.specs.declared.policy.Mode.{Mode}
 use Rattle.voucher.specs.declared.policy.Mode.TheVariants.{Enforce, Testing, None as NoPolicy}
@@ -43,7 +44,7 @@ in_line x = not (x == 13 || x == 10)
 -- LF, CRLF and the text's end each end a line; behind the last line end there is none
 abbrev pub LineEnds : Type 0
 LineEnds =
-    (line rest : List ℕ) → all in_line line ≡ true →
+    (line rest : List ℕ) → list_all in_line line ≡ true →
     (lines (line ++ (10 ∷ rest)) ≡ line ∷ lines rest)
     × (lines (line ++ (13 ∷ (10 ∷ rest))) ≡ line ∷ lines rest)
     × (0 < length line → lines line ≡ line ∷ [])

@@ -1,13 +1,15 @@
 -- MTA-STS policies (RFC 8461 section 3.2): which texts are policies, and the mode and the names of each.
-use Rattle.std.specs.Prelude.{ℕ, ◌+◌, ◌-◌, ◌*◌, Bool, true, false, cond, not, ◌&&◌, ◌||◌, List, [], ◌∷◌, length, is_some, Some, None, Ok, Err, codes, Option, Result, ◌==◌, nat_le}
+use Rattle.std.specs.Prelude.{ℕ, Bool, true, false, cond, not, ◌&&◌, ◌||◌, List, [], ◌∷◌, length, is_some, Some, None, Ok, Err, codes, option_and_then, Option, Result, ◌==◌, nat_le}
 use Rattle.std.specs.Str.{bytes_eq}
+use Rattle.std.specs.List.{list_all, list_any}
+use Rattle.std.specs.Option.{option_map_or}
+use Rattle.std.specs.Str.Parse.{digits_value}
 use Rattle.smtp.specs.declared.refusal.Refusal.{Refusal}
 use Rattle.smtp.specs.declared.refusal.Refusal.TheVariants.{BadPolicy}
-use Rattle.smtp.specs.Bytes.{within, digit, all, some}
+use Rattle.smtp.specs.Bytes.{within, digit}
 use Rattle.smtp.specs.Names.{host_name, covers_name}
 use Rattle.voucher.specs.declared.policy.Mode.{Mode}
 use Rattle.voucher.specs.declared.policy.Mode.TheVariants.{Enforce, Testing, None as NoPolicy}
-use Rattle.voucher.specs.declared.policy.Policy.{Policy}
 use Rattle.voucher.specs.PolicyLines.{lines, key, value, is_field}
 
 -- the value of the first line with a key
@@ -17,17 +19,11 @@ first_of k (l ∷ ls) = cond (bytes_eq (key l) k) (Some (value l)) (first_of k l
 
 -- a value that is there, and passes a test
 abbrev pub given : (List ℕ → Bool) → Option (List ℕ) → Bool
-given test None = false
-given test (Some v) = test v
-
--- the number that decimal digits write, behind those that wrote `n`
-abbrev pub number_from : ℕ → List ℕ → ℕ
-number_from n [] = n
-number_from n (x ∷ s) = number_from (n * 10 + (x - 48)) s
+given test v = option_map_or test v false
 
 -- a lifetime in seconds: 1 to 10 digits, leading zeros among them, of at most 31557600
 abbrev pub is_age : List ℕ → Bool
-is_age v = within 1 (length v) 10 && (all digit v && nat_le (number_from 0 v) 31557600)
+is_age v = within 1 (length v) 10 && (list_all digit v && nat_le (digits_value 10 v) 31557600)
 
 -- a pattern that an `mx` may have: a host name, or `*.` and a host name
 abbrev pub is_starred : List ℕ → Bool
@@ -38,12 +34,14 @@ is_starred (x ∷ (y ∷ rest)) = x == 42 && (y == 46 && host_name rest)
 abbrev pub is_pattern : List ℕ → Bool
 is_pattern v = host_name v || is_starred v
 
+-- a mode's name, as a policy text writes it
+abbrev pub mode_name : Mode → List ℕ
+mode_name Enforce = codes "enforce"
+mode_name Testing = codes "testing"
+mode_name NoPolicy = codes "none"
+
 abbrev pub mode_named : List ℕ → Option Mode
 mode_named v = cond (bytes_eq v (codes "enforce")) (Some Enforce) (cond (bytes_eq v (codes "testing")) (Some Testing) (cond (bytes_eq v (codes "none")) (Some NoPolicy) None))
-
-abbrev pub mode_in : Option (List ℕ) → Option Mode
-mode_in None = None
-mode_in (Some v) = mode_named v
 
 -- a line of the form: key, colon and value, where the value of an `mx` is a pattern
 abbrev pub well_formed_line : List ℕ → Bool
@@ -64,8 +62,8 @@ with_mx mx (Some m) = cond (mx || not (needs_mx m)) (Some m) None
 abbrev pub mode_of : List (List ℕ) → Option Mode
 mode_of ls =
     cond
-    (all well_formed_line ls && (given (λ v. bytes_eq v (codes "STSv1")) (first_of (codes "version") ls) && given is_age (first_of (codes "max_age") ls)))
-    (with_mx (is_some (first_of (codes "mx") ls)) (mode_in (first_of (codes "mode") ls)))
+    (list_all well_formed_line ls && (given (λ v. bytes_eq v (codes "STSv1")) (first_of (codes "version") ls) && given is_age (first_of (codes "max_age") ls)))
+    (with_mx (is_some (first_of (codes "mx") ls)) (option_and_then mode_named (first_of (codes "mode") ls)))
     None
 
 -- a policy text has at most 8,192 bytes
@@ -80,17 +78,12 @@ read_as text (Some m) = Ok (text, m)
 unfoldable pub read_policy : List ℕ → Result (List ℕ × Mode) Refusal
 read_policy text = read_as text (policy_mode text)
 
--- a policy as the reader hands it out
-abbrev pub held : Result Policy Refusal → Result (List ℕ × Mode) Refusal
-held (Ok p) = Ok (p.text.now, p.mode)
-held (Err e) = Err e
-
 -- a line is an `mx` whose pattern covers a name
 abbrev pub mx_covers : List ℕ → List ℕ → Bool
 mx_covers name l = bytes_eq (key l) (codes "mx") && covers_name (value l) name
 
 -- the names that a policy vouches for: in mode enforce those that an `mx` covers, in any other none
 abbrev pub policy_set : Mode → List ℕ → List ℕ → Bool
-policy_set Enforce text name = some (mx_covers name) (lines text)
+policy_set Enforce text name = list_any (mx_covers name) (lines text)
 policy_set Testing text name = false
 policy_set NoPolicy text name = false

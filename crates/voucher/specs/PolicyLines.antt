@@ -1,6 +1,7 @@
 -- The lines of a policy text, and the key and the value of each (RFC 8461 section 3.2).
-use Rattle.std.specs.Prelude.{ℕ, Bool, false, cond, ◌&&◌, ◌||◌, List, [], ◌∷◌, length, Some, None, Option, ◌==◌, nat_le, nat_lt}
-use Rattle.smtp.specs.Bytes.{within, letter, digit, all}
+use Rattle.std.specs.Prelude.{ℕ, Bool, false, cond, ◌&&◌, ◌||◌, List, [], ◌∷◌, length, ◌==◌, nat_le, nat_lt}
+use Rattle.std.specs.List.{list_all}
+use Rattle.smtp.specs.Bytes.{within, letter, digit}
 use Rattle.smtp.specs.Parts.{first_part, behind_first, parts}
 
 -- a line that LF ends, without the CR before the LF
@@ -23,11 +24,6 @@ ended (p ∷ (q ∷ ps)) = without_cr p ∷ ended (q ∷ ps)
 unfoldable pub lines : List ℕ → List (List ℕ)
 lines text = ended (parts 10 text)
 
--- the lines that are left, led by the one that was handed out; none was, none is left
-abbrev pub led : Option (List ℕ) → List (List ℕ) → List (List ℕ)
-led None ls = []
-led (Some l) ls = l ∷ ls
-
 abbrev pub blank : ℕ → Bool
 blank x = x == 32 || x == 9
 
@@ -39,7 +35,7 @@ unled (x ∷ s) = cond (blank x) (unled s) (x ∷ s)
 -- without the blanks and tabs at the end
 abbrev pub untrailed : List ℕ → List ℕ
 untrailed [] = []
-untrailed (x ∷ s) = cond (all blank (x ∷ s)) [] (x ∷ untrailed s)
+untrailed (x ∷ s) = cond (list_all blank (x ∷ s)) [] (x ∷ untrailed s)
 
 -- a line's key is what stands before its first colon; its value what stands behind it, without the blanks and tabs around
 abbrev pub key : List ℕ → List ℕ
@@ -54,7 +50,7 @@ key_byte x = letter x || (digit x || (x == 95 || within 45 x 46))
 
 abbrev pub is_key : List ℕ → Bool
 is_key [] = false
-is_key (x ∷ k) = (letter x || digit x) && (nat_le (length k) 31 && all key_byte k)
+is_key (x ∷ k) = (letter x || digit x) && (nat_le (length k) 31 && list_all key_byte k)
 
 -- a byte of a line: any but the control characters, of which the tab may stand there
 abbrev pub line_byte : ℕ → Bool
@@ -62,4 +58,4 @@ line_byte x = x == 9 || (within 32 x 126 || within 128 x 255)
 
 -- a line of key, colon and value
 abbrev pub is_field : List ℕ → Bool
-is_field line = is_key (key line) && (nat_lt (length (key line)) (length line) && all line_byte line)
+is_field line = is_key (key line) && (nat_lt (length (key line)) (length line) && list_all line_byte line)

@@ -21,9 +21,10 @@ impl<'d> Direct<'d> {
     }
 }
 
-impl<'d> Voucher for Direct<'d> {
+impl Voucher for Direct<'_> {
     ghost vouched = { λ d. direct_set d.domain.now d.has_mx };
 
+    #[tactic(auto, using(crate::proofs::Lettered::same_lower))]
     fn vouches(&self, name: &[u8]) -> bool {
         !self.has_mx && is_host_name(name) && same_word(self.domain, name)
     }

@@ -1,20 +1,28 @@
-ghost use Rattle.std.specs.Prelude.{◌≡◌};
+ghost use Rattle.std.specs.Prelude.{◌≡◌, Some, ok_or};
+ghost use Rattle.smtp.specs.declared.refusal.Refusal.TheVariants.{BadPolicy};
 ghost use Rattle.std.specs.Option.{option_map};
-ghost use Rattle.smtp.specs.Bytes.{all, some};
+ghost use Rattle.std.specs.List.{list_all, list_any};
+ghost use Rattle.smtp.specs.Bytes.{digit};
 ghost use Rattle.voucher.specs.PolicyLines.{lines};
-ghost use Rattle.voucher.specs.Policy.{first_of, mx_covers, is_age, is_starred, is_pattern, well_formed_line, mode_named, needs_mx, policy_mode, held, read_policy, policy_set};
+ghost use Rattle.voucher.specs.Policy.{first_of, mx_covers, is_age, is_starred, is_pattern, well_formed_line, mode_name, mode_named, needs_mx, policy_mode, read_policy, policy_set};
 
-use crate::policy_lines::{is_field, is_word, key_of, lines_of, value_of};
+use crate::policy_lines::{Field, fields_of};
 use crate::voucher::Voucher;
 use smtp::Refusal;
-use smtp::bytes::{from, is_digit};
 use smtp::names::{covers, is_host_name};
+use std::{fmt, str};
 
 // The most bytes that a policy text may have.
 const MAX_TEXT: usize = 8192;
 
 // The longest lifetime of a policy in seconds: about a year.
 const MAX_AGE: u32 = 31557600;
+
+// The one version of policies.
+const VERSION: &[u8] = b"STSv1";
+
+// The key of a line that names a host, or the hosts below a domain.
+const MX: &[u8] = b"mx";
 
 // What a sender does about a host that the policy does not name.
 #[derive(Clone, Copy, PartialEq, Eq, Debug)]
@@ -27,13 +35,30 @@ pub enum Mode {
     None,
 }
 
-impl Mode {
-    fn needs_mx(self) -> bool
-        ensures { result ≡ needs_mx self }
-    {
-        match self {
-            Mode::Enforce | Mode::Testing => true,
-            Mode::None => false,
+impl fmt::Display for Mode {
+    ghost output = { λ m. Some (mode_name m) };
+
+    fn fmt<W: fmt::Write>(&self, f: &mut fmt::Formatter<W>) -> fmt::Result {
+        f.write_str(match self {
+            Mode::Enforce => "enforce",
+            Mode::Testing => "testing",
+            Mode::None => "none",
+        })
+    }
+}
+
+impl TryFrom<&[u8]> for Mode {
+    type Error = Refusal;
+
+    ghost try_from_gives = { λ name r. r ≡ ok_or (mode_named name.now) BadPolicy };
+
+    #[tactic(auto, using(crate::proofs::Policies::named_by_seven))]
+    fn try_from(name: &[u8]) -> Result<Mode, Refusal> {
+        match name {
+            b"enforce" => Ok(Mode::Enforce),
+            b"testing" => Ok(Mode::Testing),
+            b"none" => Ok(Mode::None),
+            _ => Err(Refusal::BadPolicy),
         }
     }
 }
@@ -44,45 +69,43 @@ impl Mode {
 pub struct Policy<'t> {
     text: &'t [u8],
     mode: Mode,
+    ghost read: { policy_mode text.now ≡ Some mode },
 }
 
 // The value of the first line with a key.
 fn first_of<'t>(text: &'t [u8], key: &[u8]) -> Option<&'t [u8]>
     ensures { option_map (λ x. x.now) result ≡ first_of key.now (lines text.now) }
 {
-    for line in lines_of(text) {
-        if is_word(key_of(line), key) {
-            return Some(value_of(line));
-        }
-    }
-    None
+    fields_of(text)
+        .find(|field| field.key == key)
+        .map(|field| field.value)
+}
+
+fn are_digits(value: &[u8]) -> bool
+    ensures { result ≡ list_all digit value.now }
+{
+    value.iter().all(|b| b.is_ascii_digit())
 }
 
 // Whether a value is 1 to 10 digits that write at most 31557600.
 fn is_age(value: &[u8]) -> bool
     ensures { result ≡ is_age value.now }
 {
-    if value.is_empty() || value.len() > 10 {
+    // `parse` takes a plus sign too
+    if value.len() > 10 || !are_digits(value) {
         return false;
     }
-    let mut n: u32 = 0;
-    for b in value {
-        if !is_digit(*b) {
-            return false;
-        }
-        n = n * 10 + (*b - b'0') as u32;
-        if n > MAX_AGE {
-            return false;
-        }
+    match str::from_utf8(value) {
+        Ok(text) => text.parse::<u32>().is_ok_and(|seconds| seconds <= MAX_AGE),
+        Err(_) => false,
     }
-    true
 }
 
 fn is_starred(value: &[u8]) -> bool
     ensures { result ≡ is_starred value.now }
 {
     match value {
-        [b'*', b'.', ..] => is_host_name(from(value, 2)),
+        [b'*', b'.', host @ ..] => is_host_name(host),
         _ => false,
     }
 }
@@ -95,54 +118,29 @@ fn is_pattern(value: &[u8]) -> bool
 }
 
 // Whether a line is a key, a colon and a value, and the value of an `mx` is a pattern.
-fn is_well_formed(line: &[u8]) -> bool
-    ensures { result ≡ well_formed_line line.now }
+fn is_well_formed(field: &Field) -> bool
+    ensures { result ≡ well_formed_line field.now.line.now }
 {
-    is_field(line) && (!is_word(key_of(line), b"mx") || is_pattern(value_of(line)))
+    field.is_field() && (field.key != MX || is_pattern(field.value))
 }
 
 fn are_well_formed(text: &[u8]) -> bool
-    ensures { result ≡ all well_formed_line (lines text.now) }
+    ensures { result ≡ list_all well_formed_line (lines text.now) }
 {
-    for line in lines_of(text) {
-        if !is_well_formed(line) {
-            return false;
-        }
-    }
-    true
-}
-
-// The mode of a name, if it is one of the three.
-fn mode_named(name: &[u8]) -> Option<Mode>
-    ensures { result ≡ mode_named name.now }
-{
-    if is_word(name, b"enforce") {
-        Some(Mode::Enforce)
-    } else if is_word(name, b"testing") {
-        Some(Mode::Testing)
-    } else if is_word(name, b"none") {
-        Some(Mode::None)
-    } else {
-        None
-    }
+    fields_of(text).all(|field| is_well_formed(&field))
 }
 
 // Whether a line is an `mx` whose pattern covers the name.
-fn mx_covers(line: &[u8], name: &[u8]) -> bool
-    ensures { result ≡ mx_covers name.now line.now }
+fn mx_covers(field: &Field, name: &[u8]) -> bool
+    ensures { result ≡ mx_covers name.now field.now.line.now }
 {
-    is_word(key_of(line), b"mx") && covers(value_of(line), name)
+    field.key == MX && covers(field.value, name)
 }
 
 fn some_mx_covers(text: &[u8], name: &[u8]) -> bool
-    ensures { result ≡ some (mx_covers name.now) (lines text.now) }
+    ensures { result ≡ list_any (mx_covers name.now) (lines text.now) }
 {
-    for line in lines_of(text) {
-        if mx_covers(line, name) {
-            return true;
-        }
-    }
-    false
+    fields_of(text).any(|field| mx_covers(&field, name))
 }
 
 // The mode of a policy text; none where the text is no policy.
@@ -154,26 +152,27 @@ fn mode_of(text: &[u8]) -> Option<Mode>
     }
     let version = first_of(text, b"version")?;
     let max_age = first_of(text, b"max_age")?;
-    if !is_word(version, b"STSv1") || !is_age(max_age) {
+    if version != VERSION || !is_age(max_age) {
         return None;
     }
-    let mode = mode_named(first_of(text, b"mode")?)?;
-    if mode.needs_mx() && first_of(text, b"mx").is_none() {
+    let mode = Mode::try_from(first_of(text, b"mode")?).ok()?;
+    if mode != Mode::None && first_of(text, MX).is_none() {
         return None;
     }
     Some(mode)
 }
 
 impl<'t> Policy<'t> {
+    ghost use Rattle.voucher.specs.PolicyRead.{held};
+
     // Reads a policy text: at most 8,192 bytes, in lines of a key, a colon and a value, with `version` STSv1, `mode` enforce, testing or none,
     // `max_age` of at most 31557600, and an `mx` unless the mode is none.
+    #[tactic(auto, unfolding(crate::specs::Policy::read_policy))]
     pub fn read(text: &'t [u8]) -> Result<Policy<'t>, Refusal>
         ensures { held result ≡ read_policy text.now }
     {
-        match mode_of(text) {
-            Some(mode) => Ok(Policy { text, mode }),
-            None => Err(Refusal::BadPolicy),
-        }
+        let mode = mode_of(text).ok_or(Refusal::BadPolicy)?;
+        Ok(Policy { text, mode })
     }
 
     // What the policy asks of a sender.
@@ -184,9 +183,10 @@ impl<'t> Policy<'t> {
     }
 }
 
-impl<'t> Voucher for Policy<'t> {
+impl Voucher for Policy<'_> {
     ghost vouched = { λ p. policy_set p.mode p.text.now };
 
+    #[tactic(auto, using(crate::proofs::Policies::covers_held))]
     fn vouches(&self, name: &[u8]) -> bool {
         match self.mode {
             Mode::Enforce => some_mx_covers(self.text, name),

@@ -1,45 +1,122 @@
 ghost use Rattle.std.specs.Prelude.{◌≡◌, length};
-ghost use Rattle.std.specs.Iterator.{at_most};
-ghost use Rattle.std.specs.Option.{option_map};
-ghost use Rattle.std.specs.Str.{bytes_eq};
-ghost use Rattle.smtp.specs.Bytes.{all};
-ghost use Rattle.voucher.specs.PolicyLines.{lines, led, without_cr, blank, unled, untrailed, key as key_in, value as value_in, is_key, is_field};
-ghost use Rattle.voucher.specs.Kinds.{kind_of};
+ghost use Rattle.std.specs.Iterator.{YieldsFirstBy, at_most};
+ghost use Rattle.std.specs.List.{list_all};
+ghost use Rattle.voucher.specs.PolicyLines.{lines, without_cr, unled, untrailed, key as key_in, value as value_in, key_byte, line_byte, is_key, is_field};
 
-use smtp::bytes::{ByteKind, are_all, from, is_digit, is_letter, part_len, upto};
-
-// The lines of a policy text that are still to be handed out, each without the LF or CRLF that ends it.
-#[derive(Drop)]
-pub(crate) struct Lines<'t> {
-    rest: &'t [u8],
-}
-
-pub(crate) fn lines_of<'t>(text: &'t [u8]) -> Lines<'t>
-    ensures { result.rest.now ≡ text.now }
-{
-    Lines { rest: text }
-}
+use smtp::bytes::{from, part_len, upto};
 
 // A line that LF ends, without the CR before the LF.
-fn without_cr<'t>(line: &'t [u8]) -> &'t [u8]
+#[tactic(auto, using(crate::proofs::Lined::cr_last, crate::proofs::Lined::cr_none))]
+fn without_cr(line: &[u8]) -> &[u8]
     ensures { result.now ≡ without_cr line.now }
 {
-    let n = line.len();
-    if n > 0 && line[n - 1] == b'\r' {
-        upto(line, n - 1)
-    } else {
-        line
+    match line {
+        [front @ .., b'\r'] => front,
+        _ => line,
     }
 }
 
-impl<'t> Iterator for Lines<'t> {
-    type Item = &'t [u8];
+// Without the blanks and tabs at the front.
+fn without_leading(mut s: &[u8]) -> &[u8]
+    ensures { result.now ≡ unled s.entry.now }
+{
+    while let [b' ' | b'\t', rest @ ..] = s {
+        s = rest;
+    }
+    s
+}
 
-    ghost next_gives = { λ s r t. lines s.rest.now ≡ led (option_map (λ x. x.now) r) (lines t.rest.now) };
+// Without the blanks and tabs at the end.
+#[tactic(auto, using(crate::proofs::Lined::blank_last, crate::proofs::Lined::blank_none))]
+fn without_trailing(mut s: &[u8]) -> &[u8]
+    ensures { result.now ≡ untrailed s.entry.now }
+{
+    while let [front @ .., b' ' | b'\t'] = s {
+        s = front;
+    }
+    s
+}
+
+// Whether all bytes may stand in a key from its second on: letters, digits, `_`, `-` and `.`.
+fn are_key_bytes(s: &[u8]) -> bool
+    ensures { result ≡ list_all key_byte s.now }
+{
+    s.iter().all(|b| b.is_ascii_alphanumeric() || matches!(*b, b'_' | b'-' | b'.'))
+}
+
+// Whether all bytes may stand in a line: any but the control characters, of which the tab may.
+fn are_line_bytes(s: &[u8]) -> bool
+    ensures { result ≡ list_all line_byte s.now }
+{
+    s.iter().all(|b| *b == b'\t' || !b.is_ascii_control())
+}
+
+// Whether a text is a key: a letter or digit, then at most 31 letters, digits, `_`, `-` and `.`.
+#[tactic(auto, using(crate::proofs::Lined::is_key_cut))]
+fn is_key(key: &[u8]) -> bool
+    ensures { result ≡ is_key key.now }
+{
+    match key {
+        [first, rest @ ..] => first.is_ascii_alphanumeric()
+            && rest.len() <= 31
+            && are_key_bytes(rest),
+        [] => false,
+    }
+}
+
+// A line of a policy text, cut at its first colon: the key stands before it, and the value behind it, without the blanks and tabs
+// around. Where there is no colon, the whole line is the key, and the value is empty.
+#[derive(Clone, Copy)]
+pub(crate) struct Field<'t> {
+    line: &'t [u8],
+    pub(crate) key: &'t [u8],
+    pub(crate) value: &'t [u8],
+    ghost keyed: { key.now ≡ key_in line.now },
+    ghost valued: { value.now ≡ value_in line.now },
+}
+
+impl<'t> Field<'t> {
+    #[tactic(auto, using(smtp::proofs::Parted::take_first, smtp::proofs::Parted::drop_behind))]
+    fn of(line: &'t [u8]) -> Field<'t>
+        ensures { result.line.now ≡ line.now }
+    {
+        let n = part_len(line, b':');
+        Field {
+            line,
+            key: upto(line, n),
+            value: without_trailing(without_leading(from(line, n + 1))),
+        }
+    }
+
+    // Whether the line is a key, a colon and a value.
+    pub(crate) fn is_field(&self) -> bool
+        ensures { result ≡ is_field self.now.line.now }
+    {
+        is_key(self.key) && self.key.len() < self.line.len() && are_line_bytes(self.line)
+    }
+}
+
+// The lines of a policy text that are still to be handed out, each without the LF or CRLF that ends it, and cut at its first colon.
+#[derive(Drop)]
+pub(crate) struct Fields<'t> {
+    rest: &'t [u8],
+}
+
+pub(crate) fn fields_of(text: &[u8]) -> Fields<'_>
+    ensures { result.rest.now ≡ text.now }
+{
+    Fields { rest: text }
+}
+
+impl<'t> Iterator for Fields<'t> {
+    type Item = Field<'t>;
+
+    ghost next_gives = { YieldsFirstBy (λ field. field.line.now) (λ s. lines s.rest.now) };
 
     ghost remaining = { λ s. at_most (length s.rest.now) };
 
-    fn next(&mut self) -> Option<&'t [u8]> {
+    #[tactic(auto, using(crate::proofs::Lined::lines_more, crate::proofs::Lined::lines_last, crate::proofs::Lined::lines_none))]
+    fn next(&mut self) -> Option<Field<'t>> {
         let rest = self.rest;
         if rest.is_empty() {
             return None;
@@ -47,98 +124,9 @@ impl<'t> Iterator for Lines<'t> {
         let n = part_len(rest, b'\n');
         self.rest = from(rest, n + 1);
         if n < rest.len() {
-            Some(without_cr(upto(rest, n)))
+            Some(Field::of(without_cr(upto(rest, n))))
         } else {
-            Some(rest)
+            Some(Field::of(rest))
         }
     }
-}
-
-// Whether two words are the same, letter case included.
-pub(crate) fn is_word(a: &[u8], b: &[u8]) -> bool
-    ensures { result ≡ bytes_eq a.now b.now }
-{
-    a == b
-}
-
-fn is_blank(b: u8) -> bool
-    ensures { result ≡ blank b }
-{
-    b == b' ' || b == b'\t'
-}
-
-// Without the blanks and tabs at the front.
-fn without_leading<'t>(s: &'t [u8]) -> &'t [u8]
-    ensures { result.now ≡ unled s.now }
-{
-    for i in 0..s.len() {
-        if !is_blank(s[i]) {
-            return from(s, i);
-        }
-    }
-    from(s, s.len())
-}
-
-// Without the blanks and tabs at the end.
-fn without_trailing<'t>(s: &'t [u8]) -> &'t [u8]
-    ensures { result.now ≡ untrailed s.now }
-{
-    let mut n = s.len();
-    while n > 0 && is_blank(s[n - 1]) {
-        n -= 1;
-    }
-    upto(s, n)
-}
-
-// A line's key: what stands before its first colon.
-pub(crate) fn key_of<'t>(line: &'t [u8]) -> &'t [u8]
-    ensures { result.now ≡ key_in line.now }
-{
-    upto(line, part_len(line, b':'))
-}
-
-// A line's value: what stands behind its first colon, without the blanks and tabs around.
-pub(crate) fn value_of<'t>(line: &'t [u8]) -> &'t [u8]
-    ensures { result.now ≡ value_in line.now }
-{
-    without_trailing(without_leading(from(line, part_len(line, b':') + 1)))
-}
-
-// The bytes that a part of a policy text may be made of.
-#[derive(Clone, Copy)]
-pub(crate) enum Kind {
-    // letters, digits, `_`, `-` and `.`: a key from its second byte on
-    Key,
-    // all but the control characters, of which the tab may stand there: a line
-    Line,
-}
-
-impl ByteKind for Kind {
-    ghost holds = { kind_of };
-
-    fn has(self, b: u8) -> bool {
-        match self {
-            Kind::Key => is_letter(b) || is_digit(b) || b == b'_' || b == b'-' || b == b'.',
-            Kind::Line => b == b'\t' || (b >= 32 && b != 127),
-        }
-    }
-}
-
-// Whether a text is a key: a letter or digit, then at most 31 letters, digits, `_`, `-` and `.`.
-fn is_key(key: &[u8]) -> bool
-    ensures { result ≡ is_key key.now }
-{
-    if key.is_empty() {
-        return false;
-    }
-    let first = key[0];
-    (is_letter(first) || is_digit(first)) && key.len() <= 32 && are_all(from(key, 1), Kind::Key)
-}
-
-// Whether a line is a key, a colon and a value.
-pub(crate) fn is_field(line: &[u8]) -> bool
-    ensures { result ≡ is_field line.now }
-{
-    let key = key_of(line);
-    key.len() < line.len() && is_key(key) && are_all(line, Kind::Line)
 }

@@ -11,7 +11,7 @@ pub trait Voucher {
 }
 
 // A voucher that is lent vouches for the same names.
-impl<'v, V: Voucher> Voucher for &'v V {
+impl<V: Voucher> Voucher for &V {
     ghost vouched = { λ v. V.Voucher.vouched v.now };
 
     fn vouches(&self, name: &[u8]) -> bool {

@@ -19,9 +19,10 @@ impl<'n> OneName<'n> {
     }
 }
 
-impl<'n> Voucher for OneName<'n> {
+impl Voucher for OneName<'_> {
     ghost vouched = { λ v. one_name v.name.now };
 
+    #[tactic(auto, using(voucher::proofs::Lettered::same_lower))]
     fn vouches(&self, name: &[u8]) -> bool {
         is_host_name(name) && same_word(self.name, name)
     }

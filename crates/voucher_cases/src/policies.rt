@@ -3,42 +3,25 @@ use std::process::Abort;
 use std::test::Fail;
 use voucher::{Mode, Policy, Voucher};
 
-// The number of the refusal of a text, or 0 where it is a policy.
-fn refusal_of(text: &[u8]) -> u8 {
-    match Policy::read(text) {
-        Ok(_) => 0,
-        Err(refusal) => refusal.number(),
-    }
-}
-
-// Each of the texts is a policy in that mode.
-fn are(rt: &impl Abort, texts: &[&[u8]], mode: Mode) {
+// Each of the texts is a policy in that mode, or refused by that number.
+fn are_read_as(rt: &impl Abort, texts: &[&[u8]], answer: Result<Mode, u8>) {
     for (i, text) in texts.iter().enumerate() {
-        assert_eq!(rt; (i, refusal_of(text)), (i, 0));
-        if let Ok(policy) = Policy::read(text) {
-            assert_eq!(rt; policy.mode(), mode);
-        }
-    }
-}
-
-// Each of the texts is refused by the number of ill-formed policies.
-fn are_refused(rt: &impl Abort, texts: &[&[u8]]) {
-    for (i, text) in texts.iter().enumerate() {
-        assert_eq!(rt; (i, refusal_of(text)), (i, 13));
+        let read = Policy::read(text)
+            .map(|policy| policy.mode())
+            .map_err(|refusal| refusal.number());
+        assert_eq!(rt; (i, read), (i, answer));
     }
 }
 
 // Whether a policy of that text holds each of the names, or none of them.
 fn vouches_for(rt: &impl Abort, text: &[u8], names: &[&[u8]], answer: bool) -> Result<(), Fail> {
-    match Policy::read(text) {
-        Ok(policy) => {
-            for (i, name) in names.iter().enumerate() {
-                assert_eq!(rt; (i, policy.vouches(name)), (i, answer));
-            }
-            Ok(())
-        }
-        Err(_) => Err(Fail::new("a policy was refused")),
+    let Ok(policy) = Policy::read(text) else {
+        return Err(Fail::new("a policy was refused"));
+    };
+    for (i, name) in names.iter().enumerate() {
+        assert_eq!(rt; (i, policy.vouches(name)), (i, answer));
     }
+    Ok(())
 }
 
 // RFC 8461 section 3.2
@@ -51,8 +34,8 @@ const APPENDIX: &[u8] =
 
 #[test]
 fn printed_policies(rt: HostRuntime) -> Result<(), Fail> {
-    are(&rt, &[APPENDIX], Mode::Testing);
-    are(&rt, &[EXAMPLE], Mode::Enforce);
+    are_read_as(&rt, &[APPENDIX], Ok(Mode::Testing));
+    are_read_as(&rt, &[EXAMPLE], Ok(Mode::Enforce));
     vouches_for(
         &rt,
         EXAMPLE,
@@ -81,30 +64,31 @@ fn printed_policies(rt: HostRuntime) -> Result<(), Fail> {
 // Mode none, as section 8.3 has it where a domain gives MTA-STS up.
 #[test]
 fn modes(rt: HostRuntime) -> Result<(), Fail> {
-    are(
+    are_read_as(
         &rt,
         &[
             b"version: STSv1\nmode: none\nmax_age: 86400\n",
             b"version: STSv1\nmode: none\nmx: a.example\nmax_age: 86400\n",
         ],
-        Mode::None,
+        Ok(Mode::None),
     );
-    are(
+    are_read_as(
         &rt,
         &[b"version: STSv1\nmode: testing\nmx: a.example\nmax_age: 86400\n"],
-        Mode::Testing,
+        Ok(Mode::Testing),
     );
-    are(
+    are_read_as(
         &rt,
         &[b"version: STSv1\nmode: enforce\nmx: a.example\nmax_age: 86400\n"],
-        Mode::Enforce,
+        Ok(Mode::Enforce),
     );
-    are_refused(
+    are_read_as(
         &rt,
         &[
             b"version: STSv1\nmode: enforcing\nmx: a.example\nmax_age: 86400\n",
             b"version: STSv1\nmode:\nmx: a.example\nmax_age: 86400\n",
         ],
+        Err(13),
     );
     vouches_for(
         &rt,
@@ -128,7 +112,7 @@ fn modes(rt: HostRuntime) -> Result<(), Fail> {
 
 #[test]
 fn line_ends(rt: HostRuntime) {
-    are(
+    are_read_as(
         &rt,
         &[
             b"version: STSv1\nmode: none\nmax_age: 1",
@@ -136,9 +120,9 @@ fn line_ends(rt: HostRuntime) {
             b"version: STSv1\r\nmode: none\nmax_age: 1\r\n",
             b"version:STSv1\nmode:\t none \t\nmax_age:  1\t",
         ],
-        Mode::None,
+        Ok(Mode::None),
     );
-    are_refused(
+    are_read_as(
         &rt,
         &[
             // a CR that no LF follows
@@ -157,12 +141,13 @@ fn line_ends(rt: HostRuntime) {
             b" version: STSv1\nmode: none\nmax_age: 1\n",
             b"version : STSv1\nmode: none\nmax_age: 1\n",
         ],
+        Err(13),
     );
 }
 
 #[test]
 fn keys(rt: HostRuntime) {
-    are(
+    are_read_as(
         &rt,
         &[
             // of a key that stands twice, the first counts
@@ -171,17 +156,17 @@ fn keys(rt: HostRuntime) {
             b"version: STSv1\nmode: none\nmax_age: 1\n9.a-b_c: what: ever \xc3\xa9\nx:\n",
             b"version: STSv1\nmode: none\nmax_age: 1\nabcdefghijklmnopqrstuvwxyz012345: x\n",
         ],
-        Mode::None,
+        Ok(Mode::None),
     );
-    are(
+    are_read_as(
         &rt,
         &[
             // in any order
             b"max_age: 1\nmx: a.example\nmode: enforce\nversion: STSv1\n",
         ],
-        Mode::Enforce,
+        Ok(Mode::Enforce),
     );
-    are_refused(
+    are_read_as(
         &rt,
         &[
             // each that is needed
@@ -209,21 +194,22 @@ fn keys(rt: HostRuntime) {
             b"version: STSv1\nmode: none\nmax_age: 1\na: \x00\n",
             b"version: STSv1\nmode: none\nmax_age: 1\na: \x7f\n",
         ],
+        Err(13),
     );
 }
 
 #[test]
 fn ages(rt: HostRuntime) {
-    are(
+    are_read_as(
         &rt,
         &[
             b"version: STSv1\nmode: none\nmax_age: 0",
             b"version: STSv1\nmode: none\nmax_age: 31557600",
             b"version: STSv1\nmode: none\nmax_age: 0031557600",
         ],
-        Mode::None,
+        Ok(Mode::None),
     );
-    are_refused(
+    are_read_as(
         &rt,
         &[
             b"version: STSv1\nmode: none\nmax_age: 31557601",
@@ -235,13 +221,14 @@ fn ages(rt: HostRuntime) {
             b"version: STSv1\nmode: none\nmax_age: 1 2",
             b"version: STSv1\nmode: none\nmax_age: 0x1",
         ],
+        Err(13),
     );
 }
 
 #[test]
 fn patterns(rt: HostRuntime) -> Result<(), Fail> {
     let text = b"version: STSv1\nmode: enforce\nmax_age: 1\nmx: *.D.example\nmx:\tm\t\n";
-    are_refused(
+    are_read_as(
         &rt,
         &[
             b"version: STSv1\nmode: enforce\nmax_age: 1\nmx:\n",
@@ -254,6 +241,7 @@ fn patterns(rt: HostRuntime) -> Result<(), Fail> {
             b"version: STSv1\nmode: enforce\nmax_age: 1\nmx: a.example\nmx: a_b\n",
             b"version: STSv1\nmode: none\nmax_age: 1\nmx: a_b\n",
         ],
+        Err(13),
     );
     vouches_for(&rt, text, &[b"m.d.example", b"M.D.EXAMPLE", b"m"], true)?;
     vouches_for(
@@ -276,6 +264,6 @@ fn longest(rt: HostRuntime) {
     let front = b"version: STSv1\nmode: none\nmax_age: 1\nx: ";
     let mut text = [b'a'; 8193];
     text[..40].copy_from_slice(front);
-    are(&rt, &[&text[..8192]], Mode::None);
-    are_refused(&rt, &[&text]);
+    are_read_as(&rt, &[&text[..8192]], Ok(Mode::None));
+    are_read_as(&rt, &[&text], Err(13));
 }

@@ -1,29 +1,14 @@
-use Rattle.std.proofs.Common.{◌≡◌, ℕ, suc, ◌+◌, ◌<◌, true, false, cond, List, length, drop, sym, ap, ◌∙◌, arith}
-use Rattle.std.proofs.lemmas.List.{at_drop_more, at_drop_all, drop_more}
-use Rattle.smtp.specs.Replies.{crlf_first}
-use Rattle.balgwir.specs.Shown.{line_len}
+use Rattle.std.proofs.Common.{subst, List, ℕ, rules, tests}
+use Rattle.std.proofs.lemmas.Iterator.{YieldsList}
+use Rattle.std.specs.Slice.Iter.{windows_steps}
+use Rattle.std.proofs.lemmas.Iterator.Search.{position_from_yields_List}
+use Rattle.balgwir.proofs.Lines.{pairs, pairs_yielded, is_crlf, line_len_by_pairs}
 use Rattle.balgwir.proofs.sheet_report.line_len.Goals as goal
 
-step : (s : List ℕ) (i : ℕ) → i < length s → line_len (drop i s) ≡ cond (crlf_first (drop i s)) 0 (suc (line_len (drop (i + 1) s)))
-step s i h =
-    at_drop_more line_len s i 0 h
-    ∙ ap (λ (t : List ℕ). cond (crlf_first t) 0 (suc (line_len (drop (i + 1) s)))) (sym (drop_more s i 0 h))
-
-pub loop-i-preserved : goal.loop-i-preserved
-loop-i-preserved c =
-    let e = step c.args.s.now c.loop-i.i (omega arith) in
-    let t : crlf_first (drop c.loop-i.i c.args.s.now) ≡ false = ap crlf_first (sym c.from.ensures.is) ∙ sym c.is_crlf.ensures ∙ c.if-is_crlf.false in
-    let f : line_len (drop c.loop-i.i c.args.s.now) ≡ suc (line_len (drop (c.loop-i.i + 1) c.args.s.now)) = simp t at e in
-    omega (arith, c.loop-i.invariant)
-
-pub returns-then-is_crlf : goal.returns-then-is_crlf
-returns-then-is_crlf c =
-    let e = step c.args.s.now c.loop-i.i (omega arith) in
-    let t : crlf_first (drop c.loop-i.i c.args.s.now) ≡ true = ap crlf_first (sym c.from.ensures.is) ∙ sym c.is_crlf.ensures ∙ c.if-is_crlf.true in
-    let f : line_len (drop c.loop-i.i c.args.s.now) ≡ 0 = simp t at e in
-    record { is = omega (arith, c.loop-i.invariant); within = omega arith }
-
-pub returns : goal.returns
-returns c =
-    let e : line_len (drop c.loop-i.i c.args.s.now) ≡ 0 = at_drop_all line_len c.args.s.now c.loop-i.i (omega arith) in
-    record { is = omega (arith, c.loop-i.invariant); within = omega arith }
+pub returns-clause-is : goal.returns-clause-is
+returns-clause-is c =
+    let P : List ℕ → Type 0 = λ s. YieldsList windows_steps (λ w. w.now) c.windows.result (pairs s) in
+    let y : P c.args.s.now = subst P c.windows.ensures.rest (pairs_yielded c.windows.result c.windows.ensures.size) in
+    line_len_by_pairs c.args.s.now c.position-first.result c.unwrap_or.result
+    (position_from_yields_List is_crlf _ _ c.position-first.result c.position-first.ensures.ran y (λ x b q k. search (rules, tests)))
+    (search rules)

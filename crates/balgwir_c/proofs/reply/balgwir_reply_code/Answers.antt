@@ -1,7 +1,7 @@
 use Rattle.std.proofs.Common.{pos, ap, ◌∙◌, w32, SFits, rules}
 use Rattle.std.proofs.lemmas.Int.{to_z-of_z}
 use Rattle.smtp.specs.Read.{held}
-use Rattle.balgwir_c.proofs.ReplyTold.{code_some, code_none}
+use Rattle.balgwir_c.proofs.ReplyTold.{code_some}
 use Rattle.balgwir_c.proofs.reply.balgwir_reply_code.Goals as goal
 
 pub returns-in-Some : goal.returns-in-Some
@@ -9,6 +9,3 @@ returns-in-Some c =
     let f : SFits w32 c.from.result = search rules in
     to_z-of_z w32 c.from.result f
     ∙ (c.from.ensures ∙ (ap pos c.code.ensures ∙ code_some c.args.reply.now (held c.in-Some.read) c.in-Some.ensures))
-
-pub returns-in-None : goal.returns-in-None
-returns-in-None c = code_none c.args.reply.now c.in-None.ensures

@@ -2,16 +2,11 @@ use Rattle.std.proofs.Common.{ap, ◌∙◌, w32, SFits, rules}
 use Rattle.std.proofs.lemmas.Int.{to_z-of_z}
 use Rattle.smtp.specs.Read.{held}
 use Rattle.balgwir_c.specs.Numbers.{bool_int}
-use Rattle.balgwir_c.proofs.ReplyTold.{bit_is, lists_some, lists_none}
+use Rattle.balgwir_c.proofs.ReplyTold.{lists_some}
 use Rattle.balgwir_c.proofs.reply.balgwir_reply_lists.Goals as goal
 
 pub returns-in-Some : goal.returns-in-Some
 returns-in-Some c =
     let f : SFits w32 c.from.result = search rules in
     to_z-of_z w32 c.from.result f
-    ∙ (c.from.ensures
-    ∙ (bit_is c.lists.result
-    ∙ (ap bool_int c.lists.ensures ∙ lists_some c.args.reply.now c.args.word.now (held c.in-Some.read) c.in-Some.ensures)))
-
-pub returns-in-None : goal.returns-in-None
-returns-in-None c = lists_none c.args.reply.now c.args.word.now c.in-None.ensures
+    ∙ (c.from.ensures ∙ (ap bool_int c.lists.ensures ∙ lists_some c.args.reply.now c.args.word.now (held c.in-Some.read) c.in-Some.ensures))

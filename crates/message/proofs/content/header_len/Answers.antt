@@ -1,17 +1,12 @@
-use Rattle.std.proofs.Common.{ap, ◌∙◌, arith}
-use Rattle.std.proofs.lemmas.Bool.Decides.{nat_tests}
-use Rattle.message.specs.Lines.{first_line}
-use Rattle.message.proofs.Lined.{line_at}
-use Rattle.message.proofs.Headed.{header_at, header_all}
+use Rattle.std.proofs.Common.{◌∙◌, not, length, take_while, sym, ap, rules, tests}
+use Rattle.message.specs.Lines.{lines_of, joined, empty_line}
+use Rattle.message.proofs.Headed.{before_while}
 use Rattle.message.proofs.content.header_len.Goals as goal
 
-pub loop-at-preserved : goal.loop-at-preserved
-loop-at-preserved c =
-    let s = c.args.section.now in
-    let l = line_at s c.loop-at.at _ c.loop-at-test.true (c.first_line-line.ensures.is ∙ ap first_line c.from.ensures.is) in
-    let e = header_at s c.loop-at.at _ l.2 in
-    let b = l.1 in
-    grind (arith, nat_tests)
+pub front_len-requires-clause-computes : goal.front_len-requires-clause-computes
+front_len-requires-clause-computes c = ((λ l. not (empty_line l)), λ x r k. search (rules, tests))
 
 pub returns : goal.returns
-returns c = let e = header_all c.args.section.now c.loop-at.at (omega arith) in omega arith
+returns c =
+    let s = c.args.section.now in
+    c.front_len.ensures.is (λ l. not (empty_line l)) (λ x r k. search (rules, tests)) ∙ ap (λ t. length (joined (take_while (λ l. not (empty_line l)) (lines_of t)))) c.lines_of.ensures ∙ ap (λ ls. length (joined ls)) (sym (before_while (lines_of s)))

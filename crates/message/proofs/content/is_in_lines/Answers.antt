@@ -1,7 +1,7 @@
 use Rattle.std.proofs.Common.{◌+◌, arith}
 use Rattle.std.proofs.lemmas.Bool.Decides.{nat_tests}
 use Rattle.std.proofs.lemmas.List.{get_or_past}
-use Rattle.message.proofs.Formed.{well_at, well_all}
+use Rattle.message.proofs.Formed.{well_at}
 use Rattle.message.proofs.content.is_in_lines.Goals as goal
 use Rattle.message.proofs.content.is_in_lines.Goals.{then-i-content-via-then-i-content, then-i-content-via-else-i-content+then-content-i-ne10, then-n-ge998-via-then-n-ge998, then-n-ge998-via-else-n-ge998+then-not-is_plain}
 
@@ -27,6 +27,3 @@ pub loop-i-preserved : goal.loop-i-preserved
 loop-i-preserved c =
     let e = well_at c.loop-i.n c.loop-i.i c.args.content.now c.loop-i-test.true in
     grind (arith, nat_tests)
-
-pub returns : goal.returns
-returns c = let e = well_all c.loop-i.n c.loop-i.i c.args.content.now c.loop-i-test.false in grind (arith, nat_tests)

@@ -1,6 +1,10 @@
-use Rattle.std.proofs.Common.{true, drop}
-use Rattle.message.proofs.Stuffed.{stuff_from, Laid}
+use Rattle.std.proofs.Common.{◌≡◌, length}
+use Rattle.message.proofs.Stuffed.{Comes}
 use Rattle.message.proofs.stuffing.put_stuffed.Given as goal
 
-abbrev pub invariant-loop-b : goal.invariant-loop-b
-invariant-loop-b l = Laid (stuff_from true l.content) l.initial.out l.n l.out (stuff_from l.at_start (drop l.b-index l.content))
+abbrev pub invariant-loop-line : goal.invariant-loop-line
+invariant-loop-line l =
+    (goal.iterator-loop-line).can_next l.line-iterator × (goal.iterator-loop-line).is_finite l.line-iterator
+    × (l.writer.out.ghost_name ≡ l.initial.writer.out.ghost_name)
+    × (length l.writer.out.now ≡ length l.fn.out)
+    × Comes l.content l.fn.out l.writer.len l.writer.out.now l.line-iterator.rest.now

@@ -1,16 +1,22 @@
-use Rattle.std.proofs.Common.{arith}
-use Rattle.std.proofs.lemmas.Bool.Decides.{nat_tests}
-use Rattle.message.proofs.Stuffed.{dots_more, dots_all, dots_from_holds}
+use Rattle.std.proofs.Common.{◌∙◌, arith, rules, tests}
+use Rattle.std.proofs.lemmas.Iterator.Consumers.{YieldsList-at, YieldsList-from_filter, count_from_yields_List}
+use Rattle.message.specs.Lines.{lines_of}
+use Rattle.message.specs.Stuffing.{dot_first}
+use Rattle.message.proofs.Chains.{lines_yielded}
+use Rattle.message.proofs.Stuffed.{dots_are, dots_most}
 use Rattle.message.proofs.stuffing.stuffed_len.Goals as goal
-use Rattle.message.proofs.stuffing.stuffed_len.Goals.{then-is_first_dot, else-is_first_dot}
 
-pub loop-b-preserved : goal.loop-b-preserved
-loop-b-preserved c =
-    let e = dots_more c.loop-b.at_start c.args.content.now c.loop-b.b-index c.loop-b-test.true in
-    elim c.if-is_first_dot.branch [ then-is_first_dot w ↦ (grind (arith, nat_tests), grind (arith, nat_tests)) | else-is_first_dot w ↦ (grind (arith, nat_tests), grind (arith, nat_tests)) ]
+pub overflow_add-result-2 : goal.overflow_add-result-2
+overflow_add-result-2 c =
+    let e = count_from_yields_List c.filter.result c.count-dots.result c.count-dots.ensures.ran
+    (YieldsList-from_filter _ dot_first (YieldsList-at c.filter.ensures.source (lines_yielded c.args.content.now c.lines_of.ensures)) c.filter.ensures.closure (λ x b q k. search (rules, tests)))
+    ∙ dots_are (lines_of c.args.content.now) in
+    let f = dots_most c.args.content.now in
+    omega arith
 
 pub returns : goal.returns
 returns c =
-    let e = dots_all c.loop-b.at_start c.args.content.now c.loop-b.b-index (omega arith) in
-    let f = dots_from_holds c.args.content.now in
+    let e = count_from_yields_List c.filter.result c.count-dots.result c.count-dots.ensures.ran
+    (YieldsList-from_filter _ dot_first (YieldsList-at c.filter.ensures.source (lines_yielded c.args.content.now c.lines_of.ensures)) c.filter.ensures.closure (λ x b q k. search (rules, tests)))
+    ∙ dots_are (lines_of c.args.content.now) in
     omega arith

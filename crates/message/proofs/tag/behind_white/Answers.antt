@@ -1,23 +1,11 @@
-use Rattle.std.proofs.Common.{length, le_refl, arith}
-use Rattle.std.proofs.lemmas.Bool.Decides.{nat_tests}
-use Rattle.std.proofs.lemmas.List.{at_drop_all, drop_all}
-use Rattle.message.specs.Tags.{behind_white}
-use Rattle.message.proofs.Tagged.{white_more}
+use Rattle.std.proofs.Common.{◌∙◌, not, ap, drop, rules, tests}
+use Rattle.std.proofs.lemmas.Iterator.{YieldsList-from_slice}
+use Rattle.std.proofs.lemmas.Iterator.Search.{position_from_yields_List}
+use Rattle.message.specs.Tags.{white}
+use Rattle.message.proofs.Tags.{behind_at}
 use Rattle.message.proofs.tag.behind_white.Goals as goal
-
-pub returns-then-not-is_white : goal.returns-then-not-is_white
-returns-then-not-is_white c =
-    let e = white_more c.args.s.now c.loop-i.i c.loop-i-test.true in
-    grind (arith, nat_tests)
-
-pub loop-i-preserved : goal.loop-i-preserved
-loop-i-preserved c =
-    let e = white_more c.args.s.now c.loop-i.i c.loop-i-test.true in
-    grind (arith, nat_tests)
 
 pub returns : goal.returns
 returns c =
-    let e = at_drop_all behind_white c.args.s.now c.loop-i.i c.loop-i-test.false in
-    let d = drop_all (length c.args.s.now) c.args.s.now (le_refl _) in
-    let i = c.loop-i.invariant in
-    cc
+    let s = c.args.s.now in
+    c.from.ensures.is ∙ ap (λ n. drop n s) c.unwrap_or-n.ensures ∙ behind_at s c.position.result (position_from_yields_List (λ x. not (white x)) _ _ c.position.result c.position.ensures.ran (YieldsList-from_slice s cc) (λ x b q k. search (rules, tests)))

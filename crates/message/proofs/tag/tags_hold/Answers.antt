@@ -1,4 +1,4 @@
-use Rattle.message.proofs.Tagged.{tags_hold}
+use Rattle.message.proofs.Tags.{tags_hold}
 use Rattle.message.proofs.tag.tags_hold.Goals as goal
 
 pub returns : goal.returns

@@ -1,18 +1,12 @@
-use Rattle.std.proofs.Common.{arith}
-use Rattle.std.proofs.lemmas.Bool.Decides.{nat_tests}
-use Rattle.smtp.proofs.Parted.{part_len_more, part_len_all}
+use Rattle.std.proofs.Common.{◌≡◌, ◌==◌, rules, tests}
+use Rattle.std.specs.List.{position}
+use Rattle.std.proofs.lemmas.Iterator.{YieldsList-from_slice}
+use Rattle.std.proofs.lemmas.Iterator.Search.{position_from_yields_List}
+use Rattle.smtp.proofs.Parted.{first_place}
 use Rattle.smtp.proofs.bytes.part_len.Goals as goal
 
-pub loop-i-preserved : goal.loop-i-preserved
-loop-i-preserved c =
-    let e = part_len_more c.args.sep c.args.s.now c.loop-i.i (omega arith) in grind (arith, nat_tests)
-
-pub returns-then-s-i : goal.returns-then-s-i
-returns-then-s-i c =
-    let e = part_len_more c.args.sep c.args.s.now c.loop-i.i (omega arith) in
-    record { is = grind (arith, nat_tests); within = omega arith }
-
-pub returns : goal.returns
-returns c =
-    let e = part_len_all c.args.sep c.args.s.now c.loop-i.i (omega arith) in
-    record { is = omega arith; within = omega arith }
+pub returns-clause-is : goal.returns-clause-is
+returns-clause-is c =
+    let found : c.position.result ≡ position (λ x. x == c.args.sep) c.args.s.now =
+    position_from_yields_List (λ x. x == c.args.sep) _ _ c.position.result c.position.ensures.ran (YieldsList-from_slice _ c.iter.ensures.rest) (λ x b q k. search (rules, tests)) in
+    cc (first_place c.args.sep c.args.s.now)

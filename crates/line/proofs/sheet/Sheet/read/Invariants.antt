@@ -1,10 +1,11 @@
-use Rattle.std.proofs.Common.{◌≡◌, ◌-◌, ◌≤◌, length, drop}
+use Rattle.std.proofs.Common.{◌≡◌, length}
+use Rattle.line.specs.Entries.{left, records_left}
 use Rattle.line.specs.Sheet.{sheet_from, sheet_form}
 use Rattle.line.proofs.sheet.Sheet.read.Given as goal
 
 -- what is left decides
-abbrev pub invariant-loop-at : goal.invariant-loop-at
-invariant-loop-at l = (l.at ≤ length l.bytes) × (sheet_from l.least (drop l.at l.bytes) ≡ sheet_form l.bytes)
+abbrev pub invariant-loop-entry : goal.invariant-loop-entry
+invariant-loop-entry l = sheet_from l.least (left l.entries) ≡ sheet_form l.bytes
 
-abbrev pub decreases-loop-at : goal.decreases-loop-at
-decreases-loop-at l = length l.bytes - l.at
+abbrev pub decreases-loop-entry : goal.decreases-loop-entry
+decreases-loop-entry l = length (records_left l.entries)

@@ -1,12 +1,11 @@
-use Rattle.std.proofs.Common.{◌≡◌, ◌-◌, ◌≤◌, length}
-use Rattle.smtp.specs.Replies.{reply_code}
+use Rattle.std.proofs.Common.{◌≡◌, length}
+use Rattle.smtp.specs.Replies.{is_last, reply_code}
 use Rattle.smtp.proofs.Reading.{Decides}
 use Rattle.smtp.proofs.reply.Reply.read.Given as goal
 
-abbrev pub invariant-loop-last : goal.invariant-loop-last
-invariant-loop-last l =
-    (l.at ≤ length l.bytes) × (l.first.code ≡ reply_code l.bytes) × Decides l.bytes l.last l.first.code l.at
+abbrev pub invariant-loop-first : goal.invariant-loop-first
+invariant-loop-first l = (l.first.code ≡ reply_code l.bytes) × Decides l.bytes (is_last l.line.separator) l.first.code l.rest
 
 -- what is left falls with each line
-abbrev pub decreases-loop-last : goal.decreases-loop-last
-decreases-loop-last l = length l.bytes - l.at
+abbrev pub decreases-loop-first : goal.decreases-loop-first
+decreases-loop-first l = length l.rest

@@ -1,0 +1,50 @@
+use Rattle.std.proofs.Common.{◌≡◌, ◌++◌, false, length, take, drop, Ok, refl, sym, ap, ◌∙◌}
+use Rattle.std.proofs.lemmas.Bool.{le-ltb}
+use Rattle.std.proofs.lemmas.List.{take-append-drop}
+use Rattle.std.specs.Result.{result_ok}
+use Rattle.line.specs.Model.{Bytes}
+use Rattle.line.specs.Calls.{Step, short}
+use Rattle.line.specs.declared.state.State.{State}
+use Rattle.line.specs.Transcripts.{sense, waiting_in}
+use Rattle.line.proofs.Soundness.{sound_as, answered_as, take_done, take_closed, waiting_laid}
+use Rattle.line.proofs.peer_calls.PeerLineLine.take.Goals as goal
+
+pub returns-then-is_closed : goal.returns-then-is_closed
+returns-then-is_closed g c =
+    let s = c.args.self.now in
+    let old = c.args.reply.now in
+    let q = c.ok_or.ensures.ok_part ∙ ap result_ok c.in_ok-front.was in
+    let f = simp q at c.first_chunk_mut.ensures.cases in
+    let big : short (length old) ≡ false = le-ltb (length old) 4096 f.enough in
+    let t = take_closed (g.P.Peer.rule s.peer) (take s.state.used s.out.now) (length s.out.now) s.state old big (sym c.if-is_closed.ensures) in
+    record {
+      same = refl;
+      answer = sym (ap (λ (x : Step _). x.answer) t.is);
+      after = sym (ap (λ (x : Step _). x.after) t.is);
+      buffer = ap (λ (z : Bytes). z ++ drop 4096 old) f.same ∙ take-append-drop 4096 old ∙ sym t.holds;
+    }
+
+pub invariant_of-self : goal.invariant_of-self
+invariant_of-self g c =
+    let s = c.args.self.now in
+    let d = sound_as s.out.now s.state c.answered-self.result _ c.answered-self.ensures s.within s.few s.sound in
+    record { within = d.within; few = d.few; sound = d.keeps }
+
+pub returns : goal.returns
+returns g c =
+    let s = c.args.self.now in
+    let rule = g.P.Peer.rule s.peer in
+    let text = take s.state.used s.out.now in
+    let old = c.args.reply.now in
+    let q = c.ok_or.ensures.ok_part ∙ ap result_ok c.in_ok-front.was in
+    let f = simp q at c.first_chunk_mut.ensures.cases in
+    let big : short (length old) ≡ false = le-ltb (length old) 4096 f.enough in
+    let t = take_done rule text (length s.out.now) s.state old big (sym c.if-is_closed.ensures) in
+    let a = c.ask_reply-taken.ensures in
+    let e = answered_as length s.state c.answered-self.result s.state.standing c.is_some.result c.ask_reply-taken.result (waiting_in rule text s.state) c.answered-self.ensures c.is_some.ensures a.answer in
+    record {
+      same = refl;
+      answer = ap Ok a.answer ∙ sym t.answer;
+      after = ap (λ (z : State). sense rule (take z.used s.out.now) (length s.out.now) z) e ∙ sym t.after;
+      buffer = ap (λ (z : Bytes). z ++ drop 4096 old) a.buffer ∙ waiting_laid rule text s.state old c.in_ok-front.front.now f.same ∙ sym t.holds;
+    }
