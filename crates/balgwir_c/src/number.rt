@@ -18,7 +18,7 @@ pub(crate) fn refusal_int(refusal: Refusal) -> i32
     i32::from(refusal.number())
 }
 
-// A tag's number as C has it. 0 is no tag, so that memory of zeros does not pass for one.
+// A tag's number as C has it, by a table: the numbers are those of the C interface alone. 0 is no tag, so that memory of zeros does not pass for one.
 pub(crate) fn tag_int(tag: Tag) -> i32
     ensures { result ≡ tag_int tag }
 {
