@@ -93,7 +93,7 @@ impl fmt::Display for UsageError<'_> {
         match *self {
             UsageError::NoCommand => f.write_str("no command"),
             UsageError::UnknownCommand(command) => write!(f, "unknown command: {command}"),
-            UsageError::WrongOperands(verb) => write!(f, "{verb} needs {}", verb.needs()),
+            UsageError::WrongOperands(verb) => write!(f, "{} needs {}", verb.name(), verb.needs()),
             UsageError::NotCoverage(word) => {
                 write!(f, "tag needs the word covered or clear last, not {word}")
             }

@@ -92,7 +92,7 @@ fn run<'a>(rt: &HostRuntime, words: &'a [String]) -> Result<(), Failure<'a>> {
         Command::Reply { file } => reply(rt, file)?,
         Command::Explain { file } => explain(rt, file)?,
         Command::Covers { pattern, name } => {
-            let covered = YesNo(covers(pattern.as_bytes(), name.as_bytes()));
+            let covered = YesNo(covers(pattern.as_bytes(), name.as_bytes())).word();
             println!(rt; "covered: {covered}")?;
         }
         Command::Tag {

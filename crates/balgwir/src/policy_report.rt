@@ -32,8 +32,8 @@ impl fmt::Display for PolicyAnswer {
     ghost output = { λ a. Some (codes "mode: " ++ (mode_name a.mode ++ (codes "\nvouched: " ++ (yes_no a.vouched ++ codes "\n")))) };
 
     fn fmt<W: fmt::Write>(&self, f: &mut fmt::Formatter<W>) -> fmt::Result {
-        let mode = self.mode;
-        let vouched = YesNo(self.vouched);
+        let mode = self.mode.name();
+        let vouched = YesNo(self.vouched).word();
         writeln!(f, "mode: {mode}\nvouched: {vouched}")
     }
 }

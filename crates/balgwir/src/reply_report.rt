@@ -42,8 +42,8 @@ impl fmt::Display for ReplyReport<'_> {
                 writeln!(f, "{}", KeywordLine { word, place, alone })?;
             }
         }
-        let starttls = YesNo(reply.lists(b"STARTTLS"));
-        let requiretls = YesNo(reply.lists(b"REQUIRETLS"));
+        let starttls = YesNo(reply.lists(b"STARTTLS")).word();
+        let requiretls = YesNo(reply.lists(b"REQUIRETLS")).word();
         writeln!(f, "starttls: {starttls}")?;
         writeln!(f, "requiretls: {requiretls}")
     }

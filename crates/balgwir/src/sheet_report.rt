@@ -44,15 +44,24 @@ impl<'s> Iterator for Lines<'s> {
 #[derive(Clone, Copy)]
 struct EndNote<'s>(&'s [u8]);
 
+impl EndNote<'_> {
+    // The words for it, in every case.
+    fn words(self) -> &'static str
+        ensures { result.now ≡ end_note (ends_in_crlf self.entry.0.now) }
+    {
+        if self.0.ends_with(b"\r\n") {
+            ""
+        } else {
+            ", no CRLF at the end"
+        }
+    }
+}
+
 impl fmt::Display for EndNote<'_> {
     ghost output = { λ reply. Some (end_note (ends_in_crlf reply.0.now)) };
 
     fn fmt<W: fmt::Write>(&self, f: &mut fmt::Formatter<W>) -> fmt::Result {
-        f.write_str(if self.0.ends_with(b"\r\n") {
-            ""
-        } else {
-            ", no CRLF at the end"
-        })
+        f.write_str(self.words())
     }
 }
 
@@ -111,7 +120,7 @@ impl fmt::Display for ShownRecord<'_> {
         match self.0.letter {
             Letter::Reply => {
                 let n = bytes.len();
-                let end = EndNote(bytes);
+                let end = EndNote(bytes).words();
                 let reply = ShownReply(bytes);
                 write!(f, "visit {visit} reply, {n} bytes{end}:\n{reply}")
             }
@@ -119,8 +128,8 @@ impl fmt::Display for ShownRecord<'_> {
                 let Some(answer) = HandshakeAnswer::read(bytes) else {
                     return Ok(());
                 };
-                let trust = answer.trust;
-                let number = trust.number();
+                let trust = answer.trust.name();
+                let number = answer.trust.number();
                 let names = text_of(answer.names);
                 writeln!(
                     f,

@@ -25,7 +25,7 @@ impl<'l> MailAnswer<'l> {
 
 impl fmt::Display for MailAnswer<'_> {
     fn fmt<W: fmt::Write>(&self, f: &mut fmt::Formatter<W>) -> fmt::Result {
-        let tag = self.0.tag;
+        let tag = self.0.tag.name();
         let path = text_of(self.0.line.path());
         writeln!(f, "tag: {tag}\npath: {path}")
     }

@@ -8,11 +8,21 @@ use std::str::from_utf8;
 #[derive(Clone, Copy)]
 pub struct YesNo(pub bool);
 
+impl YesNo {
+    // The word for it, in every case. What is printed goes by this and not by `fmt`, whose clause speaks only of where the writing
+    // succeeds.
+    pub fn word(self) -> &'static str
+        ensures { result.now ≡ yes_no self.0 }
+    {
+        if self.0 { "yes" } else { "no" }
+    }
+}
+
 impl fmt::Display for YesNo {
     ghost output = { λ answer. Some (yes_no answer.0) };
 
     fn fmt<W: fmt::Write>(&self, f: &mut fmt::Formatter<W>) -> fmt::Result {
-        f.write_str(if self.0 { "yes" } else { "no" })
+        f.write_str(self.word())
     }
 }
 

@@ -1,9 +1,10 @@
 -- Bytes laid down behind what is written, and the parts of what is written.
-use Rattle.std.proofs.Common.{◌≡◌, ℕ, ◌+◌, ◌-◌, ◌≤◌, Bool, true, false, cond, ltb, [], ◌++◌, length, take, drop, Some, None, Option, refl, sym, ap, ◌∙◌, arith, ltb-false}
-use Rattle.std.proofs.lemmas.List.{append_assoc, append-nil, length-append, length-take-le, length-drop, take_at, take-take, drop-take, drop-drop, take-append-drop}
+use Rattle.std.proofs.Common.{◌≡◌, ℕ, ◌+◌, ◌-◌, ◌≤◌, ◌<◌, Bool, true, false, cond, ltb, List, [], ◌∷◌, ◌++◌, length, get_or, take, drop, set, Some, None, Option, refl, sym, ap, ◌∙◌, arith, ltb-false}
+use Rattle.std.proofs.lemmas.List.{take_more, take_more_set, append_assoc, append-nil, length-append, length-take-le, length-drop, take_at, take-take, drop-take, drop-drop, take-append-drop}
 use Rattle.line.specs.declared.record.Letter.{Letter}
+use Rattle.line.specs.declared.record.Letter.TheVariants.{Opened}
 use Rattle.line.specs.declared.record.Trust.{Trust}
-use Rattle.line.specs.Calls.{laid, fitting, fitting_names, names_of}
+use Rattle.line.specs.Calls.{laid as lying, fitting, fitting_names, names_of, crlf}
 use Rattle.line.specs.Model.{Bytes}
 use Rattle.line.specs.Buffers.{laid_at}
 use Rattle.line.specs.Layout.{head_of}
@@ -29,6 +30,46 @@ without_ending visit l bytes =
     let z : length bytes + 0 ≡ length bytes = omega arith in
     ap (λ (k : ℕ). head_of visit l k ++ (bytes ++ [])) z ∙ ap (λ (b : Bytes). head_of visit l (length bytes) ++ b) (append-nil bytes)
 
+-- a piece's record, and a name's, laid behind what is written
+pub piece_laid : (at visit : ℕ) (l : Letter) (bytes old out : Bytes) → out ≡ laid_at at (head_of visit l (length bytes + 0) ++ (bytes ++ [])) old → at + (12 + length bytes) ≤ length old
+    → LaidDown at (12 + length bytes) (head_of visit l (length bytes) ++ bytes) old out
+piece_laid at visit l bytes old out e h =
+    laid_down at (12 + length bytes) (head_of visit l (length bytes) ++ bytes) old out (e ∙ ap (λ (z : Bytes). laid_at at z old) (without_ending visit l bytes)) (omega arith) h
+
+pub name_laid : (at visit : ℕ) (host old out : Bytes) → out ≡ laid_at at (head_of visit Opened (length host + 2) ++ (host ++ crlf)) old → at + (12 + (length host + 2)) ≤ length old
+    → LaidDown at (12 + (length host + 2)) (head_of visit Opened (length host + 2) ++ (host ++ crlf)) old out
+name_laid at visit host old out e h =
+    laid_down at (12 + (length host + 2)) (head_of visit Opened (length host + 2) ++ (host ++ crlf)) old out e (omega (arith, length-append host crlf)) h
+
+-- one byte more of a text that is laid down
+pub laid_step : (at i : ℕ) (xs old src : List ℕ) → take (at + i) xs ≡ take at old ++ take i src → i < length src → at + i < length xs
+    → take (at + (i + 1)) (set xs (at + i) (get_or src i 0)) ≡ take at old ++ take (i + 1) src
+laid_step at i xs old src e h k =
+    let a : at + (i + 1) ≡ at + i + 1 = omega arith in
+    let t = take_more_set xs (at + i) (get_or src i 0) k in
+    let p = take_more src i 0 h in
+    let s = append_assoc (take at old) (take i src) (get_or src i 0 ∷ []) in
+    cc
+
+-- a head of 12 bytes, and a text behind it
+pub laid : (at : ℕ) (x0 x1 x2 r a b : List ℕ) → r ≡ a → length a ≡ 12 → take (at + length r) x1 ≡ take at x0 ++ r
+    → take (at + 12 + length b) x2 ≡ take (at + 12) x1 ++ b → take (at + (12 + length b)) x2 ≡ take at x0 ++ (a ++ b)
+laid at x0 x1 x2 r a b e l t1 t2 =
+    let n : at + 12 ≡ at + length r = ap (λ (k : ℕ). at + k) (sym l ∙ ap length (sym e)) in
+    let m : at + (12 + length b) ≡ at + 12 + length b = omega arith in
+    let s = append_assoc (take at x0) a b in
+    cc
+
+-- a further text
+pub laid_more : (at : ℕ) (x0 x2 x3 a b d : List ℕ) → take (at + (12 + length b)) x2 ≡ take at x0 ++ (a ++ b)
+    → take (at + 12 + length b + length d) x3 ≡ take (at + 12 + length b) x2 ++ d → take (at + (12 + (length b + length d))) x3 ≡ take at x0 ++ (a ++ (b ++ d))
+laid_more at x0 x2 x3 a b d t2 t3 =
+    let m : at + (12 + length b) ≡ at + 12 + length b = omega arith in
+    let k : at + (12 + (length b + length d)) ≡ at + 12 + length b + length d = omega arith in
+    let s = append_assoc (take at x0) (a ++ b) d in
+    let u = append_assoc a b d in
+    cc
+
 -- a part of what is written, as it is lent
 pub part_in : (i j : ℕ) (xs : Bytes) → i ≤ j → take (j - i) (drop i xs) ≡ drop i (take j xs)
 part_in i j xs h =
@@ -51,18 +92,18 @@ front_laid n t old front e h =
     append_assoc t (drop k front) (drop n old)
     ∙ ap (λ (z : Bytes). t ++ z) (ap (λ (z : Bytes). drop k z ++ drop n old) e ∙ cc)
 
-pub fitting_laid : (o : Option Bytes) (old front : Bytes) → front ≡ take 4096 old → laid (fitting o) front ++ drop 4096 old ≡ laid (fitting o) old
+pub fitting_laid : (o : Option Bytes) (old front : Bytes) → front ≡ take 4096 old → lying (fitting o) front ++ drop 4096 old ≡ lying (fitting o) old
 fitting_laid None old front e = ap (λ (z : Bytes). z ++ drop 4096 old) e ∙ take-append-drop 4096 old
 fitting_laid (Some t) old front e = go (ltb 4096 (length t)) refl
   where
-    go : (b : Bool) → ltb 4096 (length t) ≡ b → laid (cond b None (Some t)) front ++ drop 4096 old ≡ laid (cond b None (Some t)) old
+    go : (b : Bool) → ltb 4096 (length t) ≡ b → lying (cond b None (Some t)) front ++ drop 4096 old ≡ lying (cond b None (Some t)) old
     go true h = ap (λ (z : Bytes). z ++ drop 4096 old) e ∙ take-append-drop 4096 old
     go false h = front_laid 4096 t old front e (ltb-false 4096 (length t) h)
 
-pub names_laid : (o : Option (Trust × Bytes)) (old front : Bytes) → front ≡ take 4096 old → laid (names_of (fitting_names o)) front ++ drop 4096 old ≡ laid (names_of (fitting_names o)) old
+pub names_laid : (o : Option (Trust × Bytes)) (old front : Bytes) → front ≡ take 4096 old → lying (names_of (fitting_names o)) front ++ drop 4096 old ≡ lying (names_of (fitting_names o)) old
 names_laid None old front e = fitting_laid None old front e
 names_laid (Some h) old front e = go (ltb 4096 (length h.1)) refl
   where
-    go : (b : Bool) → ltb 4096 (length h.1) ≡ b → laid (names_of (cond b None (Some h))) front ++ drop 4096 old ≡ laid (names_of (cond b None (Some h))) old
+    go : (b : Bool) → ltb 4096 (length h.1) ≡ b → lying (names_of (cond b None (Some h))) front ++ drop 4096 old ≡ lying (names_of (cond b None (Some h))) old
     go true t = fitting_laid None old front e
     go false t = front_laid 4096 h.1 old front e (ltb-false 4096 (length h.1) t)

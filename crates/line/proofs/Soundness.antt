@@ -2,7 +2,7 @@
 use Rattle.std.proofs.Common.{◌≡◌, ℕ, suc, ◌+◌, ◌-◌, ◌*◌, ◌≤◌, min, Bool, true, false, cond, not, eqb, leb, List, [], ◌∷◌, ◌++◌, map, length, take, drop, is_some, Some, None, Ok, Option, sym, refl, ap, ◌∙◌, subst, arith}
 use Rattle.std.proofs.lemmas.Bool.Decides.{nat_tests}
 use Rattle.std.specs.Option.{option_map}
-use Rattle.std.proofs.lemmas.Bool.{true≢false, not-true, and_parts, and_from, eqb-true, eq-eqb, leb-true, le-leb}
+use Rattle.std.proofs.lemmas.Bool.{true≢false, not-true, not-false, and_parts, and_from, eqb-true, eq-eqb, leb-true, le-leb}
 use Rattle.std.proofs.lemmas.List.{take-append-le, drop-append-le, length-drop, length-take-le, length-append, map-append, drop_all, drop-drop, drop_at, take_at}
 use Rattle.line.specs.declared.record.Letter.{Letter}
 use Rattle.line.specs.declared.record.Letter.TheVariants as letter
@@ -10,25 +10,24 @@ use Rattle.line.specs.declared.line.Standing.{Standing}
 use Rattle.line.specs.declared.line.Standing.TheVariants.{Closed, Clear, Covered}
 use Rattle.line.specs.declared.state.State.{State}
 use Rattle.smtp.specs.Names.{host_name, dotted, label_byte}
-use Rattle.smtp.specs.declared.refusal.Refusal.TheVariants.{WrongStanding}
-use Rattle.line.specs.Model.{Bytes, Record, Piece, Rule, closed, opened, Meaning, fresh, idle_at}
+use Rattle.smtp.specs.declared.refusal.Refusal.TheVariants.{WrongStanding, NoRoom}
+use Rattle.line.specs.Model.{Bytes, Record, Piece, Rule, closed, opened, Meaning, fresh, stance, idle_at}
 use Rattle.line.specs.declared.record.Trust.{Trust}
 use Rattle.line.specs.declared.visit.Visit.{Visit}
 use Rattle.line.specs.Buffers.{laid_at}
-use Rattle.line.specs.Calls.{Step, does, refuse, tight, noted, letter_of, piece, crlf, opening, putting, taking, laid, short, fitting, reply_buffer, covering, names_of, names_buffer}
-use Rattle.line.specs.Pieces.{piece_of}
-use Rattle.line.specs.Peers.{reply_to, handshake_to, sized}
+use Rattle.line.specs.Calls.{Step, does, refuse, tight, noted, letter_of, piece, crlf, opening, putting, taking, hearing, laid, short, fitting, reply_buffer, covering, names_of, names_buffer}
+use Rattle.line.specs.Pieces.{piece_of, pieces_of}
+use Rattle.line.specs.Peers.{reply_to, handshake_to, sized, kept}
 use Rattle.line.specs.Layout.{head_of, written, records, whole, Fits}
 use Rattle.line.specs.Sheet.{clear_count, covered_count}
 use Rattle.line.specs.Transcripts.{is_closed, is_clear, is_covered, piece_letter, name_in, pieces_in, standing_of, sense, calm, sound, fresh_state, opened_state, put_state, quiet_state, standing_if, if_fits, waiting_in, shaken_in}
 use Rattle.line.proofs.Laws.{records_more, whole_more, whole_nil, records_nil}
-use Rattle.line.proofs.Laid.{laid_down, without_ending, fitting_laid, names_laid}
+use Rattle.line.proofs.Laid.{piece_laid, name_laid, fitting_laid, names_laid}
 
 -- the facts, one by one
 pub record Facts (text : Bytes) (st : State) : Type 0 where
   pub begun : st.start ≤ st.used
   pub named : st.at + st.long ≤ st.start
-  pub brief : st.long ≤ 253
   pub visits : 14 * st.visit ≤ st.used
   pub amount : 12 * (st.clear + st.covered) ≤ st.used
   pub whole_text : whole text ≡ true
@@ -42,8 +41,7 @@ unfolding sound
 facts text st h =
     let a = and_parts (leb st.start st.used) _ h in
     let b = and_parts (leb (st.at + st.long) st.start) _ a.1 in
-    let z = and_parts (leb st.long 253) _ b.1 in
-    let c = and_parts (leb (14 * st.visit) st.used) _ z.1 in
+    let c = and_parts (leb (14 * st.visit) st.used) _ b.1 in
     let d = and_parts (leb (12 * (st.clear + st.covered)) st.used) _ c.1 in
     let e = and_parts (whole text) _ d.1 in
     let f = and_parts (whole (drop st.start text)) _ e.1 in
@@ -52,7 +50,6 @@ facts text st h =
     record {
       begun = leb-true st.start st.used a.0;
       named = leb-true (st.at + st.long) st.start b.0;
-      brief = leb-true st.long 253 z.0;
       visits = leb-true (14 * st.visit) st.used c.0;
       amount = leb-true (12 * (st.clear + st.covered)) st.used d.0;
       whole_text = e.0;
@@ -67,20 +64,18 @@ unfolding sound
 sound_from text st f =
     and_from _ _ (le-leb st.start st.used f.begun)
     (and_from _ _ (le-leb (st.at + st.long) st.start f.named)
-    (and_from _ _ (le-leb st.long 253 f.brief)
     (and_from _ _ (le-leb (14 * st.visit) st.used f.visits)
     (and_from _ _ (le-leb (12 * (st.clear + st.covered)) st.used f.amount)
     (and_from _ _ f.whole_text
     (and_from _ _ f.whole_visit
     (and_from _ _ (eq-eqb st.clear (clear_count (pieces_in text st)) f.clears)
-    (and_from _ _ (eq-eqb st.covered (covered_count (pieces_in text st)) f.covereds) f.calmed))))))))
+    (and_from _ _ (eq-eqb st.covered (covered_count (pieces_in text st)) f.covereds) f.calmed)))))))
 
 -- nothing is written
 pub sound_fresh : sound [] fresh_state ≡ true
 sound_fresh = sound_from [] fresh_state (record {
   begun = omega arith;
   named = omega arith;
-  brief = omega arith;
   visits = omega arith;
   amount = omega arith;
   whole_text = whole_nil;
@@ -103,7 +98,6 @@ sound_quiet text st s h =
     sound_from text (quiet_state st s) (record {
       begun = f.begun;
       named = f.named;
-      brief = f.brief;
       visits = f.visits;
       amount = f.amount;
       whole_text = f.whole_text;
@@ -207,7 +201,6 @@ sound_put text st bytes s u fits o =
     sound_from (text ++ written r) (put_state st (length bytes)) (record {
       begun = omega (arith, f.begun);
       named = f.named;
-      brief = f.brief;
       visits = omega (arith, f.visits);
       amount = put_counts c st.clear st.covered st.used (length bytes) f.amount;
       whole_text = whole_more text r f.whole_text fits;
@@ -268,16 +261,15 @@ name_there text st name u =
 host_short : (name : Bytes) → host_name name ≡ true → length name ≤ 253
 host_short name e = leb-true (length name) 253 (and_parts (leb (length name) 253) (dotted label_byte 63 name) e).0
 
-pub sound_open : (text : Bytes) (st : State) (name : Bytes) → sound text st ≡ true → st.used ≡ length text → Fits (open_record st name) → host_name name ≡ true
+pub sound_open : (text : Bytes) (st : State) (name : Bytes) → sound text st ≡ true → st.used ≡ length text → Fits (open_record st name)
     → sound (text ++ written (open_record st name)) (opened_state st (length name)) ≡ true
-sound_open text st name s u fits h =
+sound_open text st name s u fits =
     let f = facts text st s in
     let r = open_record st name in
     let none = past_all text st name u in
     sound_from (text ++ written r) (opened_state st (length name)) (record {
       begun = omega arith;
       named = omega arith;
-      brief = host_short name h;
       visits = omega (arith, f.visits);
       amount = omega arith;
       whole_text = whole_more text r f.whole_text fits;
@@ -340,52 +332,151 @@ pub record Done (step : Step (Unit {0})) (rule : Rule) (out : Bytes) (st : State
   pub is : step ≡ does (sense rule (take st.used out) (length out) st) tt
 
 pub put_done : (rule rule' : Rule) (out out' : Bytes) (st st' : State) (l : Letter) (bytes : Bytes) → st.used ≤ length out → st.used ≤ 1000000 → sound (take st.used out) st ≡ true
-    → is_closed st.standing ≡ false → if_fits (length out) st (length bytes) (put_state st (length bytes)) ≡ Some st' → l ≡ piece_letter st.standing
-    → out' ≡ laid_at st.used (head_of st.visit l (length bytes + 0) ++ (bytes ++ [])) out → rule' ≡ rule
+    → is_closed st.standing ≡ false → true ≡ not (tight (min 1000000 (length out) - st.used) (length bytes)) → l ≡ piece_letter st.standing
+    → take (st.used + (12 + length bytes)) out' ≡ take st.used out ++ (head_of st.visit l (length bytes) ++ bytes) → length out' ≡ length out → st' ≡ put_state st (length bytes) → rule' ≡ rule
     → Done (putting (sense rule (take st.used out) (length out) st) bytes) rule' out' st'
-put_done rule rule' out out' st st' l bytes w few s o fit le t er =
+put_done rule rule' out out' st st' l bytes w few s o fit le t n e er =
     let f = facts (take st.used out) st s in
     let u : st.used ≡ length (take st.used out) = sym (length-take-le st.used out w) in
-    let r = room_for (length out) st (length bytes) (put_state st (length bytes)) st' few w fit in
-    let fits : Fits (piece_record st bytes) = (omega (arith, f.visits), omega (arith, r.small)) in
-    let same : head_of st.visit l (length bytes + 0) ++ (bytes ++ []) ≡ written (piece_record st bytes) =
-    without_ending st.visit l bytes ∙ ap (λ (z : Letter). head_of st.visit z (length bytes) ++ bytes) le in
-    let d = laid_down st.used (12 + length bytes) (written (piece_record st bytes)) out out' (t ∙ ap (λ (z : Bytes). laid_at st.used z out) same) (omega arith) (omega (arith, r.ends)) in
+    let r = roomy (min 1000000 (length out) - st.used) (length bytes) fit in
+    let fits : Fits (piece_record st bytes) = (omega (arith, f.visits), omega (arith, r.1)) in
+    let text : take (st.used + (12 + length bytes)) out' ≡ take st.used out ++ written (piece_record st bytes) =
+    t ∙ ap (λ (z : Letter). take st.used out ++ (head_of st.visit z (length bytes) ++ bytes)) le in
     let k = sound_put (take st.used out) st bytes s u fits o in
-    let q = sense_put rule (take st.used out) (length out) st bytes s u fits o r.loose in
-    let text = d.text in
-    let n = d.len in
-    subst (λ (z : State). Done (putting (sense rule (take st.used out) (length out) st) bytes) rule' out' z) (sym r.is) (record {
-      within = omega (arith, r.ends);
-      few = omega (arith, r.ends);
+    let q = sense_put rule (take st.used out) (length out) st bytes s u fits o r.0 in
+    let st-is : put_state st (length bytes) ≡ st' = sym e in
+    subst (λ (z : State). Done (putting (sense rule (take st.used out) (length out) st) bytes) rule' out' z) st-is (record {
+      within = omega (arith, r.2);
+      few = omega (arith, r.2);
       keeps = ap (λ (z : Bytes). sound z (put_state st (length bytes))) text ∙ k;
       is = q ∙ ap (λ (m : Meaning). does m tt) (rw (er, n, text) refl);
     })
 
 pub open_done : (rule rule' : Rule) (out out' : Bytes) (st st' : State) (host : Bytes) → st.used ≤ length out → st.used ≤ 1000000 → sound (take st.used out) st ≡ true
-    → host_name host ≡ true → is_closed st.standing ≡ true → if_fits (length out) st (length host + 2) (opened_state st (length host)) ≡ Some st'
-    → out' ≡ laid_at st.used (head_of st'.visit letter.Opened (length host + 2) ++ (host ++ crlf)) out → rule' ≡ rule
+    → host_name host ≡ true → is_closed st.standing ≡ true → true ≡ not (tight (min 1000000 (length out) - st.used) (length host + 2))
+    → take (st.used + (12 + (length host + 2))) out' ≡ take st.used out ++ (head_of (st.visit + 1) letter.Opened (length host + 2) ++ (host ++ crlf)) → length out' ≡ length out
+    → st' ≡ opened_state st (length host) → rule' ≡ rule
     → Done (opening (sense rule (take st.used out) (length out) st) host) rule' out' st'
-open_done rule rule' out out' st st' host w few s h o fit t er =
+open_done rule rule' out out' st st' host w few s h o fit t n e er =
     let f = facts (take st.used out) st s in
     let u : st.used ≡ length (take st.used out) = sym (length-take-le st.used out w) in
-    let r = room_for (length out) st (length host + 2) (opened_state st (length host)) st' few w fit in
+    let r = roomy (min 1000000 (length out) - st.used) (length host + 2) fit in
     let ln : length host + 2 ≡ length (host ++ crlf) = sym (length-append host crlf) in
-    let fits : Fits (open_record st host) = (omega (arith, f.visits), omega (arith, r.small)) in
-    let v : st'.visit ≡ st.visit + 1 = ap (λ (z : State). z.visit) r.is in
-    let same : head_of st'.visit letter.Opened (length host + 2) ++ (host ++ crlf) ≡ written (open_record st host) =
-    ap (λ (z : ℕ). head_of z letter.Opened (length host + 2) ++ (host ++ crlf)) v ∙ ap (λ (z : ℕ). head_of (st.visit + 1) letter.Opened z ++ (host ++ crlf)) ln in
-    let d = laid_down st.used (12 + (length host + 2)) (written (open_record st host)) out out' (t ∙ ap (λ (z : Bytes). laid_at st.used z out) same) (omega arith) (omega (arith, r.ends)) in
-    let k = sound_open (take st.used out) st host s u fits h in
-    let q = sense_open rule (take st.used out) (length out) st host s u fits h o r.loose in
-    let text = d.text in
-    let n = d.len in
-    subst (λ (z : State). Done (opening (sense rule (take st.used out) (length out) st) host) rule' out' z) (sym r.is) (record {
-      within = omega (arith, r.ends);
-      few = omega (arith, r.ends);
+    let fits : Fits (open_record st host) = (omega (arith, f.visits), omega (arith, r.1)) in
+    let text : take (st.used + (12 + (length host + 2))) out' ≡ take st.used out ++ written (open_record st host) =
+    t ∙ ap (λ (z : ℕ). take st.used out ++ (head_of (st.visit + 1) letter.Opened z ++ (host ++ crlf))) ln in
+    let k = sound_open (take st.used out) st host s u fits in
+    let q = sense_open rule (take st.used out) (length out) st host s u fits h o r.0 in
+    subst (λ (z : State). Done (opening (sense rule (take st.used out) (length out) st) host) rule' out' z) (sym e) (record {
+      within = omega (arith, r.2);
+      few = omega (arith, r.2);
       keeps = ap (λ (z : Bytes). sound z (opened_state st (length host))) text ∙ k;
       is = q ∙ ap (λ (m : Meaning). does m tt) (rw (er, n, text) refl);
     })
+
+-- a name for which there is no room
+pub open_tight : (rule : Rule) (text : Bytes) (total : ℕ) (st : State) (host : Bytes) → host_name host ≡ true → is_closed st.standing ≡ true
+    → false ≡ not (tight (min 1000000 total - st.used) (length host + 2)) → opening (sense rule text total st) host ≡ refuse (sense rule text total st) NoRoom
+open_tight rule text total st host h o t =
+    let s = closed_as st.standing (name_in text st) (pieces_in text st) o in
+    let b : tight (min 1000000 total - st.used) (length (host ++ crlf)) ≡ true = ap (tight (min 1000000 total - st.used)) (length-append host crlf) ∙ not-false (tight (min 1000000 total - st.used) (length host + 2)) (sym t) in
+    rw (h, s, b)
+
+-- a piece's record, as it is laid behind what is written
+pub put_laid : (rule rule' : Rule) (out out' : Bytes) (st st' : State) (l : Letter) (bytes : Bytes) → st.used ≤ length out → st.used ≤ 1000000 → sound (take st.used out) st ≡ true
+    → is_closed st.standing ≡ false → if_fits (length out) st (length bytes) (put_state st (length bytes)) ≡ Some st' → l ≡ piece_letter st.standing
+    → out' ≡ laid_at st.used (head_of st.visit l (length bytes + 0) ++ (bytes ++ [])) out → rule' ≡ rule
+    → Done (putting (sense rule (take st.used out) (length out) st) bytes) rule' out' st'
+put_laid rule rule' out out' st st' l bytes w few s o fit le t er =
+    let r = room_for (length out) st (length bytes) (put_state st (length bytes)) st' few w fit in
+    let d = piece_laid st.used st.visit l bytes out out' t (omega (arith, r.ends)) in
+    put_done rule rule' out out' st st' l bytes w few s o (sym (ap not r.loose)) le d.text d.len r.is er
+
+-- a name's record, as it is laid behind what is written
+pub open_laid : (rule rule' : Rule) (out out' : Bytes) (st st' : State) (host : Bytes) → st.used ≤ length out → st.used ≤ 1000000 → sound (take st.used out) st ≡ true
+    → host_name host ≡ true → is_closed st.standing ≡ true → if_fits (length out) st (length host + 2) (opened_state st (length host)) ≡ Some st'
+    → out' ≡ laid_at st.used (head_of st'.visit letter.Opened (length host + 2) ++ (host ++ crlf)) out → rule' ≡ rule
+    → Done (opening (sense rule (take st.used out) (length out) st) host) rule' out' st'
+open_laid rule rule' out out' st st' host w few s h o fit t er =
+    let r = room_for (length out) st (length host + 2) (opened_state st (length host)) st' few w fit in
+    let d = name_laid st.used st'.visit host out out' t (omega (arith, r.ends)) in
+    let v : st'.visit ≡ st.visit + 1 = ap (λ (z : State). z.visit) r.is in
+    open_done rule rule' out out' st st' host w few s h o (sym (ap not r.loose))
+    (d.text ∙ ap (λ (z : ℕ). take st.used out ++ (head_of z letter.Opened (length host + 2) ++ (host ++ crlf))) v) d.len r.is er
+
+-- the name of a visit stays short
+pub short_quiet : (st st' : State) (s : Standing) → st' ≡ quiet_state st s → st.long ≤ 253 → st'.long ≤ 253
+short_quiet st st' s e h = let l : st'.long ≡ st.long = ap (λ (z : State). z.long) e in omega arith
+
+pub short_put : (total : ℕ) (st st' : State) (bytes : Bytes) → st.used ≤ total → st.used ≤ 1000000 → if_fits total st (length bytes) (put_state st (length bytes)) ≡ Some st'
+    → st.long ≤ 253 → st'.long ≤ 253
+short_put total st st' bytes w few fit h =
+    let r = room_for total st (length bytes) (put_state st (length bytes)) st' few w fit in
+    let l : st'.long ≡ st.long = ap (λ (z : State). z.long) r.is in
+    omega arith
+
+pub short_open : (total : ℕ) (st st' : State) (host : Bytes) → st.used ≤ total → st.used ≤ 1000000 → if_fits total st (length host + 2) (opened_state st (length host)) ≡ Some st'
+    → host_name host ≡ true → st'.long ≤ 253
+short_open total st st' host w few fit h =
+    let r = room_for total st (length host + 2) (opened_state st (length host)) st' few w fit in
+    let l : st'.long ≡ length host = ap (λ (z : State). z.long) r.is in
+    omega (arith, host_short host h)
+
+-- What a peer noted of a visit goes by the visit's name and pieces, which stay where nothing is opened or put.
+pub noted_quiet : (f : Bytes → List Piece → ℕ) (out : Bytes) (st st' : State) (s : Standing) (note : Option ℕ) → st' ≡ quiet_state st s
+    → kept (f (name_in (take st.used out) st) (pieces_in (take st.used out) st)) note ≡ true
+    → kept (f (name_in (take st'.used out) st') (pieces_in (take st'.used out) st')) note ≡ true
+noted_quiet f out st st' s note e h = ap (λ (z : State). kept (f (name_in (take z.used out) z) (pieces_in (take z.used out) z)) note) e ∙ h
+
+-- where a piece was put, the pieces are one more
+pub noted_put : (f f' : Bytes → List Piece → ℕ) (out out' : Bytes) (st st' : State) (l : Letter) (bytes : Bytes) (note : Option ℕ)
+    → st.used ≤ length out → st.used ≤ 1000000 → sound (take st.used out) st ≡ true
+    → if_fits (length out) st (length bytes) (put_state st (length bytes)) ≡ Some st' → l ≡ piece_letter st.standing
+    → out' ≡ laid_at st.used (head_of st.visit l (length bytes + 0) ++ (bytes ++ [])) out → f' ≡ f
+    → kept (f (name_in (take st.used out) st) (pieces_in (take st.used out) st ++ (piece (is_covered st.standing) bytes ∷ []))) note ≡ true
+    → kept (f' (name_in (take st'.used out') st') (pieces_in (take st'.used out') st')) note ≡ true
+noted_put f f' out out' st st' l bytes note w few s fit le t ef h =
+    let text = take st.used out in
+    let g = facts text st s in
+    let u : st.used ≡ length text = sym (length-take-le st.used out w) in
+    let r = room_for (length out) st (length bytes) (put_state st (length bytes)) st' few w fit in
+    let fits : Fits (piece_record st bytes) = (omega (arith, g.visits), omega (arith, r.small)) in
+    let d = piece_laid st.used st.visit l bytes out out' t (omega (arith, r.ends)) in
+    let after : take (st.used + (12 + length bytes)) out' ≡ text ++ written (piece_record st bytes) =
+    d.text ∙ ap (λ (z : Letter). text ++ (head_of st.visit z (length bytes) ++ bytes)) le in
+    let n : name_in (take (st.used + (12 + length bytes)) out') (put_state st (length bytes)) ≡ name_in text st =
+    ap (λ (z : Bytes). name_in z st) after ∙ name_stays text (written (piece_record st bytes)) st.at st.long (omega (arith, g.begun, g.named)) in
+    let p : pieces_in (take (st.used + (12 + length bytes)) out') (put_state st (length bytes)) ≡ pieces_in text st ++ (piece (is_covered st.standing) bytes ∷ []) =
+    ap (λ (z : Bytes). pieces_in z (put_state st (length bytes))) after ∙ pieces_more text st bytes g u fits in
+    ap (λ (k : Bytes → List Piece → ℕ). kept (k (name_in (take st'.used out') st') (pieces_in (take st'.used out') st')) note) ef
+    ∙ ap (λ (z : State). kept (f (name_in (take z.used out') z) (pieces_in (take z.used out') z)) note) r.is
+    ∙ ap (λ (z : Bytes). kept (f z (pieces_in (take (st.used + (12 + length bytes)) out') (put_state st (length bytes)))) note) n
+    ∙ ap (λ (ps : List Piece). kept (f (name_in text st) ps) note) p ∙ h
+
+-- where a name was opened, there is none yet
+pub noted_open : (f f' : Bytes → List Piece → ℕ) (out out' : Bytes) (st st' : State) (host : Bytes) (note : Option ℕ)
+    → st.used ≤ length out → st.used ≤ 1000000 → if_fits (length out) st (length host + 2) (opened_state st (length host)) ≡ Some st'
+    → out' ≡ laid_at st.used (head_of st'.visit letter.Opened (length host + 2) ++ (host ++ crlf)) out → f' ≡ f
+    → kept (f host []) note ≡ true → kept (f' (name_in (take st'.used out') st') (pieces_in (take st'.used out') st')) note ≡ true
+noted_open f f' out out' st st' host note w few fit t ef h =
+    let text = take st.used out in
+    let u : st.used ≡ length text = sym (length-take-le st.used out w) in
+    let r = room_for (length out) st (length host + 2) (opened_state st (length host)) st' few w fit in
+    let d = name_laid st.used st'.visit host out out' t (omega (arith, r.ends)) in
+    let v : st'.visit ≡ st.visit + 1 = ap (λ (z : State). z.visit) r.is in
+    let ln : length host + 2 ≡ length (host ++ crlf) = sym (length-append host crlf) in
+    let after : take (st.used + (12 + (length host + 2))) out' ≡ text ++ written (open_record st host) =
+    d.text ∙ ap (λ (z : ℕ). text ++ (head_of z letter.Opened (length host + 2) ++ (host ++ crlf))) v
+    ∙ ap (λ (z : ℕ). text ++ (head_of (st.visit + 1) letter.Opened z ++ (host ++ crlf))) ln in
+    let n : name_in (take (st.used + (12 + (length host + 2))) out') (opened_state st (length host)) ≡ host =
+    ap (λ (z : Bytes). name_in z (opened_state st (length host))) after ∙ name_there text st host u in
+    let p : pieces_in (take (st.used + (12 + (length host + 2))) out') (opened_state st (length host)) ≡ [] =
+    ap (λ (z : Bytes). pieces_in z (opened_state st (length host))) after
+    ∙ ap (λ (z : Bytes). map piece_of (records z)) (past_all text st host u) ∙ ap (map piece_of) records_nil in
+    ap (λ (k : Bytes → List Piece → ℕ). kept (k (name_in (take st'.used out') st') (pieces_in (take st'.used out') st')) note) ef
+    ∙ ap (λ (z : State). kept (f (name_in (take z.used out') z) (pieces_in (take z.used out') z)) note) r.is
+    ∙ ap (λ (z : Bytes). kept (f z (pieces_in (take (st.used + (12 + (length host + 2))) out') (opened_state st (length host)))) note) n
+    ∙ ap (λ (ps : List Piece). kept (f host ps) note) p ∙ h
 
 -- an answer that came or was lost: none is due then
 some_sized : {A B : Type 0} (f : A → B) (o : Option A) → is_some (option_map f o) ≡ is_some o
@@ -415,6 +506,11 @@ pub asked_reply : (rule : Rule) (text : Bytes) (st : State) (v : Visit) → v.nu
     → reply_to rule v ≡ waiting_in rule text st
 asked_reply rule text st v a b c d = rw (a, b, c, d)
 
+-- by what was noted of that visit
+pub noted_asked : (f : Bytes → List Piece → ℕ) (text : Bytes) (st : State) (v : Visit) (n : Option ℕ) → v.name.now ≡ name_in text st → v.pieces.now ≡ drop st.start text
+    → kept (f (name_in text st) (pieces_in text st)) n ≡ true → kept (f v.name.now (pieces_of v.pieces.now)) n ≡ true
+noted_asked f text st v n a b h = rw (a, b) h
+
 -- what a take makes of the reply that waits
 pub record Took (step : Step (Option ℕ)) (held : Bytes) (rule : Rule) (text : Bytes) (total : ℕ) (st : State) (old : Bytes) : Type 0 where
   pub answer : step.answer ≡ Ok (option_map length (waiting_in rule text st))
@@ -429,9 +525,9 @@ took_by rule text total st old Clear se e s (Some t) w = record { answer = rw (e
 took_by rule text total st old Covered se e s None w = record { answer = rw (e, ← se, w); after = rw (e, ← se, w); holds = rw (e, ← se, w) }
 took_by rule text total st old Covered se e s (Some t) w = record { answer = rw (e, ← se, w); after = rw (e, ← se, w); holds = rw (e, ← se, w) }
 
-pub take_done : (rule : Rule) (text : Bytes) (total : ℕ) (st : State) (old : Bytes) → short (length old) ≡ false → is_closed st.standing ≡ false
+pub take_took : (rule : Rule) (text : Bytes) (total : ℕ) (st : State) (old : Bytes) → short (length old) ≡ false → is_closed st.standing ≡ false
     → Took (taking (sense rule text total st) (length old)) (reply_buffer (sense rule text total st) old) rule text total st old
-take_done rule text total st old e s = took_by rule text total st old st.standing refl e s (waiting_in rule text st) refl
+take_took rule text total st old e s = took_by rule text total st old st.standing refl e s (waiting_in rule text st) refl
 
 -- what a cover makes of the answer to a handshake
 pub record Shook (step : Step (Option (Trust × ℕ))) (held : Bytes) (rule : Rule) (text : Bytes) (total : ℕ) (st : State) (old : Bytes) : Type 0 where
@@ -484,6 +580,26 @@ cover_by rule text total st old Covered se e s = record { is = rw (e, ← se); h
 pub cover_not_clear : (rule : Rule) (text : Bytes) (total : ℕ) (st : State) (old : Bytes) → short (length old) ≡ false → is_clear st.standing ≡ false
     → Refused (covering (sense rule text total st) (length old)) (sense rule text total st) (names_buffer (sense rule text total st) old) old
 cover_not_clear rule text total st old e s = cover_by rule text total st old st.standing refl e s
+
+-- the reply that waits, and what a take makes of it
+pub record Taken (m : Meaning) (old : Bytes) (o : Option Bytes) : Type 0 where
+  pub is : taking m (length old) ≡ hearing m o
+  pub holds : reply_buffer m old ≡ laid o old
+
+taken_by : (m : Meaning) (old : Bytes) (c : Bool) (name : Bytes) (ps : List Piece) (o : Option Bytes) → short (length old) ≡ false → m.standing ≡ opened c name ps
+    → cond m.due (fitting (m.rule.reply m.visit name ps)) None ≡ o → Taken m old o
+taken_by m old c name ps o e s w = record { is = rw (e, s, w); holds = rw (e, s, w) }
+
+pub take_done : (rule : Rule) (text : Bytes) (total : ℕ) (st : State) (old : Bytes) (o : Option Bytes) → short (length old) ≡ false → is_closed st.standing ≡ false
+    → cond st.due (fitting (rule.reply st.visit (name_in text st) (pieces_in text st))) None ≡ o → Taken (sense rule text total st) old o
+take_done rule text total st old o e s w =
+    taken_by (sense rule text total st) old (is_covered st.standing) (name_in text st) (pieces_in text st) o e (opened_as st.standing (name_in text st) (pieces_in text st) s) w
+
+-- how the line stands, as it is answered
+pub stance_is : (s : Standing) (name : Bytes) (ps : List Piece) → s ≡ stance (standing_of s name ps)
+stance_is Closed name ps = refl
+stance_is Clear name ps = refl
+stance_is Covered name ps = refl
 
 -- a closed line has no reply due, as it is answered
 pub idle_is : (s : Standing) (due : Bool) (name : Bytes) (ps : List Piece) → idle_at due (standing_of s name ps) ≡ calm s due

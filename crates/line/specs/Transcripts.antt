@@ -67,14 +67,13 @@ unfoldable pub sound : Bytes → State → Bool
 sound text st =
     nat_le st.start st.used
     && (nat_le (st.at + st.long) st.start
-    && (nat_le st.long 253
     && (nat_le (14 * st.visit) st.used
     && (nat_le (12 * (st.clear + st.covered)) st.used
     && (whole text
     && (whole (drop st.start text)
     && (st.clear == clear_count (pieces_in text st)
     && (st.covered == covered_count (pieces_in text st)
-    && calm st.standing st.due))))))))
+    && calm st.standing st.due)))))))
 
 -- the state of a line that has written nothing
 abbrev pub fresh_state : State

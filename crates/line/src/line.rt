@@ -31,18 +31,21 @@ pub trait Line {
     // Opens a visit to a host: 7 if the name is no host name, 11 unless closed, 12.
     fn open(&mut self, name: &[u8]) -> Result<(), Refusal>
         ensures same { lent self.new ≡ lent self.old }
+        ensures shown { Shown (meaning self.new) (standing self.new) (transcript self.new) (rule self.new) }
         ensures answer { result ≡ (opening (meaning self.old) name.now).answer }
         ensures after { meaning self.new ≡ (opening (meaning self.old) name.now).after };
 
     // Puts a piece: 11 if closed, 12.
     fn put(&mut self, piece: &[u8]) -> Result<(), Refusal>
         ensures same { lent self.new ≡ lent self.old }
+        ensures shown { Shown (meaning self.new) (standing self.new) (transcript self.new) (rule self.new) }
         ensures answer { result ≡ (putting (meaning self.old) piece.now).answer }
         ensures after { meaning self.new ≡ (putting (meaning self.old) piece.now).after };
 
     // Takes the reply that is due: 10 for a buffer under 4,096, 11 if closed. Its length, or none where it is lost.
     fn take(&mut self, reply: &mut [u8]) -> Result<Option<usize>, Refusal>
         ensures same { lent self.new ≡ lent self.old }
+        ensures shown { Shown (meaning self.new) (standing self.new) (transcript self.new) (rule self.new) }
         ensures answer { result ≡ (taking (meaning self.old) (length reply.old)).answer }
         ensures after { meaning self.new ≡ (taking (meaning self.old) (length reply.old)).after }
         ensures buffer { reply.new ≡ reply_buffer (meaning self.old) reply.old };
@@ -51,6 +54,7 @@ pub trait Line {
     // text, or none where it is lost.
     fn cover(&mut self, names: &mut [u8]) -> Result<Option<(Trust, usize)>, Refusal>
         ensures same { lent self.new ≡ lent self.old }
+        ensures shown { Shown (meaning self.new) (standing self.new) (transcript self.new) (rule self.new) }
         ensures answer { result ≡ (covering (meaning self.old) (length names.old)).answer }
         ensures after { meaning self.new ≡ (covering (meaning self.old) (length names.old)).after }
         ensures buffer { names.new ≡ names_buffer (meaning self.old) names.old };
@@ -58,12 +62,14 @@ pub trait Line {
     // Closes the line: 11 if closed.
     fn close(&mut self) -> Result<(), Refusal>
         ensures same { lent self.new ≡ lent self.old }
+        ensures shown { Shown (meaning self.new) (standing self.new) (transcript self.new) (rule self.new) }
         ensures answer { result ≡ (closing (meaning self.old)).answer }
         ensures after { meaning self.new ≡ (closing (meaning self.old)).after };
 
     // How the line stands.
     fn standing(&self) -> Standing
         ensures is { result ≡ stance (meaning self.now).standing }
+        ensures shown { Shown (meaning self.now) (standing self.now) (transcript self.now) (rule self.now) }
         ensures quiet { idle (meaning self.now) ≡ true };
 
     // The number of the visit, or of the last one where the line is closed.
@@ -79,6 +85,7 @@ pub trait Line {
     fn pieces(&self) -> usize
         ensures { result ≡ piece_count (meaning self.now).standing };
 
-    // Of every line: the standing, the transcript and the rule are those of its meaning.
+    // Of every line: the standing, the transcript and the rule are those of its meaning. A caller through `dyn Line` cannot cite a law,
+    // so that each call says it too.
     ghost shown: { (line : Self) → Shown (meaning line) (standing line) (transcript line) (rule line) };
 }

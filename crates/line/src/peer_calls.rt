@@ -28,8 +28,10 @@ impl<'o, P: Peer> Line for PeerLine<'o, P> {
             return Err(Refusal::WrongStanding);
         }
         let opened = self.once_opened(host).ok_or(Refusal::NoRoom)?;
+        let note = self.peer.note_opened(host);
         self.write_record(opened.visit, Letter::Opened, host, b"\r\n");
         self.state = opened;
+        self.note = note;
         Ok(())
     }
 
@@ -39,8 +41,11 @@ impl<'o, P: Peer> Line for PeerLine<'o, P> {
             return Err(Refusal::WrongStanding);
         }
         let put = self.once_put(piece).ok_or(Refusal::NoRoom)?;
+        let note = self.note;
+        let note = self.peer.note_put(note, state.standing.is_covered(), piece);
         self.write_record(state.visit, state.standing.piece_letter(), piece, b"");
         self.state = put;
+        self.note = note;
         Ok(())
     }
 

@@ -4,8 +4,8 @@ ghost use Rattle.line.specs.Model.{fresh};
 ghost use Rattle.line.specs.Calls.{tight, laid, names_of};
 ghost use Rattle.line.specs.Buffers.{laid_at};
 ghost use Rattle.line.specs.Layout.{head_of, records, written_all};
-ghost use Rattle.line.specs.Peers.{sized};
-ghost use Rattle.line.specs.Transcripts.{sense, sound, name_in, fresh_state, opened_state, put_state, if_fits, waiting_in, shaken_in};
+ghost use Rattle.line.specs.Peers.{sized, kept};
+ghost use Rattle.line.specs.Transcripts.{sense, sound, name_in, pieces_in, fresh_state, opened_state, put_state, if_fits, waiting_in, shaken_in};
 
 use crate::laying::lay_parts;
 use crate::line::Standing;
@@ -27,9 +27,13 @@ pub struct PeerLine<'o, P: Peer> {
     pub(crate) peer: P,
     pub(crate) out: &'o mut [u8],
     pub(crate) state: State,
+    // what the line keeps for the peer of the visit
+    pub(crate) note: Option<u8>,
     ghost within: { state.used ≤ length out.now },
     ghost few: { state.used ≤ 1000000 },
+    ghost short: { state.long ≤ 253 },
     ghost sound: { sound (take state.used out.now) state ≡ true },
+    ghost noted: { kept (P.noted peer (name_in (take state.used out.now) state) (pieces_in (take state.used out.now) state)) note ≡ true },
 }
 
 impl<'o, P: Peer> PeerLine<'o, P> {
@@ -46,6 +50,7 @@ impl<'o, P: Peer> PeerLine<'o, P> {
             peer,
             out: transcript,
             state,
+            note: None,
         }
     }
 
@@ -162,7 +167,7 @@ impl<'o, P: Peer> PeerLine<'o, P> {
         if !self.state.due {
             return None;
         }
-        self.peer.reply(self.visit_now(), reply)
+        self.peer.reply_noted(self.note, self.visit_now(), reply)
     }
 
     // Asks the peer for a handshake.
@@ -170,6 +175,7 @@ impl<'o, P: Peer> PeerLine<'o, P> {
         ensures answer { result ≡ option_map sized (shaken_in (P.rule self.now.peer) (take self.now.state.used self.now.out.now) self.now.state) }
         ensures buffer { names.new ≡ laid (names_of (shaken_in (P.rule self.now.peer) (take self.now.state.used self.now.out.now) self.now.state)) names.old }
     {
-        self.peer.handshake(self.visit_now(), names)
+        self.peer
+            .handshake_noted(self.note, self.visit_now(), names)
     }
 }

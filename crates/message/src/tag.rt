@@ -21,15 +21,24 @@ pub enum Tag {
     None,
 }
 
+impl Tag {
+    // How it is printed.
+    pub fn name(self) -> &'static str
+        ensures { result.now ≡ tag_name self }
+    {
+        match self {
+            Tag::Required => "required",
+            Tag::No => "no",
+            Tag::None => "none",
+        }
+    }
+}
+
 impl fmt::Display for Tag {
     ghost output = { λ tag. Some (tag_name tag) };
 
     fn fmt<W: fmt::Write>(&self, f: &mut fmt::Formatter<W>) -> fmt::Result {
-        f.write_str(match self {
-            Tag::Required => "required",
-            Tag::No => "no",
-            Tag::None => "none",
-        })
+        f.write_str(self.name())
     }
 }
 

@@ -43,7 +43,10 @@ pub fn part_len(s: &[u8], sep: u8) -> usize
     ensures is { result ≡ length (first_part sep s.now) }
     ensures within { result ≤ length s.now }
 {
-    s.iter().position(|b| *b == sep).unwrap_or(s.len())
+    match s.iter().position(|b| *b == sep) {
+        Some(place) => place,
+        None => s.len(),
+    }
 }
 
 // What stands from a place on: nothing where that is past the end.

@@ -7,28 +7,35 @@ ghost use Rattle.smtp.specs.NamesHold.{NamesHold};
 use crate::bytes::{from, is_label_byte, part_len, same_word, upto};
 
 // Whether a byte may stand in an atom: a letter, a digit, or one of RFC 5321's other bytes of atext.
-fn is_atom_byte(b: u8) -> bool
+pub fn is_atom_byte(b: u8) -> bool
     ensures { result ≡ atom_byte b }
 {
     b.is_ascii_alphanumeric()
         || matches!(b, b'!' | b'#'..=b'\'' | b'*' | b'+' | b'-' | b'/' | b'=' | b'?' | b'^'..=b'`' | b'{'..=b'~')
 }
 
-// Whether a word is 1 to `most` bytes that pass a test.
-fn is_word<F: Fn(u8) -> bool>(s: &[u8], most: usize, is_in: &F) -> bool
-    requires { F.IsAlwaysCallable is_in.now }
-    ensures { (test : ℕ → Bool) → Computes (F.post is_in.now) test → result ≡ word test most s.now }
-{
-    !s.is_empty() && s.len() <= most && s.iter().all(|b| is_in(*b))
-}
-
-// Whether a text is words of 1 to `most` bytes that pass a test, joined by dots.
+// Whether a text is words of 1 to `most` bytes that pass a test, joined by dots. In one pass, which ends at the first byte that does
+// not fit: by `split` at the dots and `all` over each word a name takes half as long again.
 fn is_dotted<F: Fn(u8) -> bool>(s: &[u8], most: usize, is_in: F) -> bool
     requires { F.IsAlwaysCallable is_in }
     ensures { (test : ℕ → Bool) → Computes (F.post is_in) test → result ≡ dotted test most s.now }
 {
-    s.split(|b| *b == b'.')
-        .all(|word| is_word(word, most, &is_in))
+    // the length of the word so far
+    let mut n: usize = 0;
+    for b in s {
+        if *b == b'.' {
+            if n == 0 || n > most {
+                return false;
+            }
+            n = 0;
+        } else {
+            if !is_in(*b) {
+                return false;
+            }
+            n += 1;
+        }
+    }
+    n > 0 && n <= most
 }
 
 // Whether a text is a host name: labels of 1 to 63 letters, digits and hyphens, joined by dots, at most 253 bytes.

@@ -109,7 +109,10 @@ fn code_of(a: u8, b: u8, c: u8) -> Option<u16>
 fn is_crlf(s: &[u8]) -> bool
     ensures { result ≡ crlf_first s.now }
 {
-    s.starts_with(b"\r\n")
+    match s {
+        [first, second, ..] => *first == b'\r' && *second == b'\n',
+        _ => false,
+    }
 }
 
 // The line whose text begins here and ends at CRLF. With CRLF a line has at most 512 bytes.

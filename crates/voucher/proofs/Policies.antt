@@ -14,12 +14,12 @@ use Rattle.voucher.specs.Voucher.{lower}
 use Rattle.voucher.proofs.Lettered.{covers_lower}
 
 -- the value of the first field with a key
-pub first_found : (k : List ℕ) (ls : List (List ℕ)) (o : Option Field) → option_map (λ f. f.line.now) o ≡ find (λ l. bytes_eq (key l) k) ls → option_map (λ f. f.value.now) o ≡ first_of k ls
+pub first_found : (k : List ℕ) (ls : List (List ℕ)) (o : Option Field) → option_map (λ f. f.line.now) o ≡ find (λ l. bytes_eq (key l) k) ls → option_map (λ f. value f.line.now) o ≡ first_of k ls
 first_found k ls o h = of_line o ∙ ap (option_map value) h ∙ found k ls
   where
-    of_line : (p : Option Field) → option_map (λ f. f.value.now) p ≡ option_map value (option_map (λ f. f.line.now) p)
+    of_line : (p : Option Field) → option_map (λ f. value f.line.now) p ≡ option_map value (option_map (λ f. f.line.now) p)
     of_line None = refl
-    of_line (Some f) = ap Some f.valued
+    of_line (Some f) = refl
 
     found : (q : List ℕ) (ks : List (List ℕ)) → option_map value (find (λ l. bytes_eq (key l) q) ks) ≡ first_of q ks
     found q [] = refl

@@ -35,15 +35,24 @@ pub enum Mode {
     None,
 }
 
+impl Mode {
+    // How it is printed.
+    pub fn name(self) -> &'static str
+        ensures { result.now ≡ mode_name self }
+    {
+        match self {
+            Mode::Enforce => "enforce",
+            Mode::Testing => "testing",
+            Mode::None => "none",
+        }
+    }
+}
+
 impl fmt::Display for Mode {
     ghost output = { λ m. Some (mode_name m) };
 
     fn fmt<W: fmt::Write>(&self, f: &mut fmt::Formatter<W>) -> fmt::Result {
-        f.write_str(match self {
-            Mode::Enforce => "enforce",
-            Mode::Testing => "testing",
-            Mode::None => "none",
-        })
+        f.write_str(self.name())
     }
 }
 
@@ -78,7 +87,7 @@ fn first_of<'t>(text: &'t [u8], key: &[u8]) -> Option<&'t [u8]>
 {
     fields_of(text)
         .find(|field| field.key == key)
-        .map(|field| field.value)
+        .map(|field| field.value())
 }
 
 fn are_digits(value: &[u8]) -> bool
@@ -121,7 +130,7 @@ fn is_pattern(value: &[u8]) -> bool
 fn is_well_formed(field: &Field) -> bool
     ensures { result ≡ well_formed_line field.now.line.now }
 {
-    field.is_field() && (field.key != MX || is_pattern(field.value))
+    field.is_field() && (field.key != MX || is_pattern(field.value()))
 }
 
 fn are_well_formed(text: &[u8]) -> bool
@@ -134,7 +143,7 @@ fn are_well_formed(text: &[u8]) -> bool
 fn mx_covers(field: &Field, name: &[u8]) -> bool
     ensures { result ≡ mx_covers name.now field.now.line.now }
 {
-    field.key == MX && covers(field.value, name)
+    field.key == MX && covers(field.value(), name)
 }
 
 fn some_mx_covers(text: &[u8], name: &[u8]) -> bool

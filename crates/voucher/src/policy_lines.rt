@@ -1,6 +1,7 @@
 ghost use Rattle.std.specs.Prelude.{◌≡◌, length};
 ghost use Rattle.std.specs.Iterator.{YieldsFirstBy, at_most};
 ghost use Rattle.std.specs.List.{list_all};
+ghost use Rattle.smtp.specs.Parts.{behind_first};
 ghost use Rattle.voucher.specs.PolicyLines.{lines, without_cr, unled, untrailed, key as key_in, value as value_in, key_byte, line_byte, is_key, is_field};
 
 use smtp::bytes::{from, part_len, upto};
@@ -64,15 +65,15 @@ fn is_key(key: &[u8]) -> bool
     }
 }
 
-// A line of a policy text, cut at its first colon: the key stands before it, and the value behind it, without the blanks and tabs
-// around. Where there is no colon, the whole line is the key, and the value is empty.
+// A line of a policy text, cut at its first colon: the key stands before it, and the value behind it. Where there is no colon, the
+// whole line is the key, and the value is empty.
 #[derive(Clone, Copy)]
 pub(crate) struct Field<'t> {
     line: &'t [u8],
     pub(crate) key: &'t [u8],
-    pub(crate) value: &'t [u8],
+    behind: &'t [u8],
     ghost keyed: { key.now ≡ key_in line.now },
-    ghost valued: { value.now ≡ value_in line.now },
+    ghost parted: { behind.now ≡ behind_first 58 line.now },
 }
 
 impl<'t> Field<'t> {
@@ -84,8 +85,16 @@ impl<'t> Field<'t> {
         Field {
             line,
             key: upto(line, n),
-            value: without_trailing(without_leading(from(line, n + 1))),
+            behind: from(line, n + 1),
         }
+    }
+
+    // The value: what stands behind the colon, without the blanks and tabs around. Only here are they taken off, since whoever looks
+    // for a key needs no other line's value.
+    pub(crate) fn value(&self) -> &'t [u8]
+        ensures { result.now ≡ value_in self.now.line.now }
+    {
+        without_trailing(without_leading(self.behind))
     }
 
     // Whether the line is a key, a colon and a value.

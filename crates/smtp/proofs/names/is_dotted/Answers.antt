@@ -1,15 +1,49 @@
-use Rattle.std.proofs.Common.{◌==◌, sym, ap, ◌∙◌, rules, tests}
-use Rattle.std.proofs.lemmas.Iterator.Search.{all_from_yields_List}
-use Rattle.std.proofs.lemmas.Iterator.Splits.{YieldsList-from_slice_split}
-use Rattle.smtp.specs.Bytes.{all}
-use Rattle.smtp.specs.Names.{word}
-use Rattle.smtp.proofs.Parted.{parts_split}
+use Rattle.std.proofs.Common.{◌≡◌, arith, rules}
+use Rattle.std.proofs.lemmas.Bool.Decides.{nat_tests}
+use Rattle.smtp.proofs.Named.{runs_dotted, runs_more, runs_all}
 use Rattle.smtp.proofs.names.is_dotted.Goals as goal
+use Rattle.smtp.proofs.names.is_dotted.Goals.{then-b-eq46+else-n-eq0+else-n-most, else-b-eq46+else-not-is_in}
+
+pub loop-b-init : goal.loop-b-init
+loop-b-init g c = (omega arith, λ test h. runs_dotted test c.args.most c.args.s.now)
+
+pub returns-then-n-eq0 : goal.returns-then-n-eq0
+returns-then-n-eq0 g c = λ test h.
+    let i = c.loop-b.invariant.1 test h in
+    let e = runs_more test c.args.most c.loop-b.n c.args.s.now c.loop-b.b-index (omega arith) in
+    grind (arith, nat_tests)
+
+pub returns-then-not-is_in : goal.returns-then-not-is_in
+returns-then-not-is_in g c = λ test h.
+    let i = c.loop-b.invariant.1 test h in
+    let e = runs_more test c.args.most c.loop-b.n c.args.s.now c.loop-b.b-index (omega arith) in
+    let p = h _ _ c.is_in.ensures in
+    grind (arith, nat_tests)
+
+pub overflow_add-n : goal.overflow_add-n
+overflow_add-n g c = search rules
+
+pub loop-b-preserved : goal.loop-b-preserved
+loop-b-preserved g c = elim c.if-b-eq46.branch [
+  | then-b-eq46+else-n-eq0+else-n-most w ↦ (
+    grind (arith, nat_tests),
+    λ test h.
+        let i = c.loop-b.invariant.1 test h in
+        let e = runs_more test c.args.most c.loop-b.n c.args.s.now c.loop-b.b-index (omega arith) in
+        grind (arith, nat_tests),
+  )
+  | else-b-eq46+else-not-is_in w ↦ (
+    grind (arith, nat_tests),
+    λ test h.
+        let i = c.loop-b.invariant.1 test h in
+        let e = runs_more test c.args.most c.loop-b.n c.args.s.now c.loop-b.b-index (omega arith) in
+        let p = h _ _ w.is_in.ensures in
+        grind (arith, nat_tests),
+  )
+]
 
 pub returns : goal.returns
 returns g c = λ test h.
-    let s = c.args.s.now in
-    all_from_yields_List (word test c.args.most) _ _ c.all.result c.all.ensures.ran
-    (YieldsList-from_slice_split _ (λ x. x == 46) s c.split.ensures.rest c.split.ensures.done c.split.ensures.closure (λ x b q k. search (rules, tests)))
-    (λ x b q k. search (rules, h, tests))
-    ∙ ap (all (word test c.args.most)) (sym (parts_split 46 s))
+    let i = c.loop-b.invariant.1 test h in
+    let e = runs_all test c.args.most c.loop-b.n c.args.s.now c.loop-b.b-index (omega arith) in
+    grind (arith, nat_tests)

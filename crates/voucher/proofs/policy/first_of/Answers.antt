@@ -3,13 +3,13 @@ use Rattle.std.specs.Str.{bytes_eq}
 use Rattle.std.specs.Option.{option_map}
 use Rattle.voucher.specs.declared.policy_lines.Field.{Field}
 use Rattle.std.proofs.lemmas.Iterator.Search.{find_from_yields_List}
-use Rattle.voucher.specs.PolicyLines.{key, lines}
+use Rattle.voucher.specs.PolicyLines.{key, value, lines}
 use Rattle.voucher.proofs.Lined.{fields_are}
 use Rattle.voucher.proofs.Policies.{first_found}
 use Rattle.voucher.proofs.policy.first_of.Goals as goal
 use borrow.Author.Tests.{tests}
 
-value_is : {P : Field → Bor (List ℕ) → Type 0} (o : Option Field) (r : Option (Bor (List ℕ))) → MatchOption o (r ≡ None) (λ f. IsSomeAnd r (P f)) → ((f : Field) (v : Bor (List ℕ)) → P f v → v.now ≡ f.value.now) → option_map (λ v. v.now) r ≡ option_map (λ f. f.value.now) o
+value_is : {P : Field → Bor (List ℕ) → Type 0} (o : Option Field) (r : Option (Bor (List ℕ))) → MatchOption o (r ≡ None) (λ f. IsSomeAnd r (P f)) → ((f : Field) (v : Bor (List ℕ)) → P f v → v.now ≡ value f.line.now) → option_map (λ v. v.now) r ≡ option_map (λ f. value f.line.now) o
 value_is None r h k = ap (option_map (λ v. v.now)) h
 value_is (Some f) None h k = absurd h
 value_is (Some f) (Some v) h k = ap Some (k f v h)

@@ -6,7 +6,7 @@ use Rattle.line.specs.Model.{Bytes}
 use Rattle.line.specs.Calls.{Step, short}
 use Rattle.line.specs.declared.state.State.{State}
 use Rattle.line.specs.Transcripts.{sense, waiting_in}
-use Rattle.line.proofs.Soundness.{sound_as, answered_as, take_done, take_closed, waiting_laid}
+use Rattle.line.proofs.Soundness.{sound_as, short_quiet, noted_quiet, answered_as, take_took, take_closed, waiting_laid}
 use Rattle.line.proofs.peer_calls.PeerLineLine.take.Goals as goal
 
 pub returns-then-is_closed : goal.returns-then-is_closed
@@ -19,6 +19,7 @@ returns-then-is_closed g c =
     let t = take_closed (g.P.Peer.rule s.peer) (take s.state.used s.out.now) (length s.out.now) s.state old big (sym c.if-is_closed.ensures) in
     record {
       same = refl;
+      shown = record { stands = refl; wrote = refl; ruled = refl };
       answer = sym (ap (λ (x : Step _). x.answer) t.is);
       after = sym (ap (λ (x : Step _). x.after) t.is);
       buffer = ap (λ (z : Bytes). z ++ drop 4096 old) f.same ∙ take-append-drop 4096 old ∙ sym t.holds;
@@ -28,7 +29,7 @@ pub invariant_of-self : goal.invariant_of-self
 invariant_of-self g c =
     let s = c.args.self.now in
     let d = sound_as s.out.now s.state c.answered-self.result _ c.answered-self.ensures s.within s.few s.sound in
-    record { within = d.within; few = d.few; sound = d.keeps }
+    record { within = d.within; few = d.few; short = short_quiet s.state _ _ c.answered-self.ensures s.short; sound = d.keeps; noted = noted_quiet (g.P.Peer.noted s.peer) s.out.now s.state c.answered-self.result _ s.note c.answered-self.ensures s.noted }
 
 pub returns : goal.returns
 returns g c =
@@ -39,11 +40,12 @@ returns g c =
     let q = c.ok_or.ensures.ok_part ∙ ap result_ok c.in_ok-front.was in
     let f = simp q at c.first_chunk_mut.ensures.cases in
     let big : short (length old) ≡ false = le-ltb (length old) 4096 f.enough in
-    let t = take_done rule text (length s.out.now) s.state old big (sym c.if-is_closed.ensures) in
+    let t = take_took rule text (length s.out.now) s.state old big (sym c.if-is_closed.ensures) in
     let a = c.ask_reply-taken.ensures in
     let e = answered_as length s.state c.answered-self.result s.state.standing c.is_some.result c.ask_reply-taken.result (waiting_in rule text s.state) c.answered-self.ensures c.is_some.ensures a.answer in
     record {
       same = refl;
+      shown = record { stands = refl; wrote = refl; ruled = refl };
       answer = ap Ok a.answer ∙ sym t.answer;
       after = ap (λ (z : State). sense rule (take z.used s.out.now) (length s.out.now) z) e ∙ sym t.after;
       buffer = ap (λ (z : Bytes). z ++ drop 4096 old) a.buffer ∙ waiting_laid rule text s.state old c.in_ok-front.front.now f.same ∙ sym t.holds;

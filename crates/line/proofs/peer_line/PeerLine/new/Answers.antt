@@ -1,4 +1,4 @@
-use Rattle.std.proofs.Common.{◌≡◌, length, take, ap, ◌∙◌, arith}
+use Rattle.std.proofs.Common.{◌≡◌, length, take, refl, ap, ◌∙◌, arith}
 use Rattle.line.specs.declared.state.State.{State}
 use Rattle.line.specs.Transcripts.{sense, sound}
 use Rattle.line.proofs.Soundness.{sound_fresh, sense_fresh}
@@ -8,7 +8,8 @@ pub invariant_of-result : goal.invariant_of-result
 invariant_of-result g c =
     let e = c.fresh-state.ensures in
     let u : c.fresh-state.result.used ≡ 0 = ap (λ (s : State). s.used) e in
-    record { within = omega arith; few = omega arith; sound = ap (λ (s : State). sound (take s.used c.args.transcript.now) s) e ∙ sound_fresh }
+    let l : c.fresh-state.result.long ≡ 0 = ap (λ (s : State). s.long) e in
+    record { within = omega arith; few = omega arith; short = omega (arith, l); noted = refl; sound = ap (λ (s : State). sound (take s.used c.args.transcript.now) s) e ∙ sound_fresh }
 
 pub returns-clause-means : goal.returns-clause-means
 returns-clause-means g c =

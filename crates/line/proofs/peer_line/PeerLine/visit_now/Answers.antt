@@ -26,7 +26,7 @@ invariant_of-result g c =
     let p = sym (part_in s.state.start s.state.used s.out.now f.begun) in
     let b = length-take (s.state.at + s.state.long - s.state.at) (drop s.state.at s.out.now) in
     record {
-      short = omega (arith, f.brief);
+      short = omega (arith, s.short);
       clears = f.clears ∙ ap (λ (z : Bytes). clear_count (pieces_of z)) p;
       covereds = f.covereds ∙ ap (λ (z : Bytes). covered_count (pieces_of z)) p;
     }
