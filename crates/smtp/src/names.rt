@@ -15,7 +15,8 @@ pub fn is_atom_byte(b: u8) -> bool
 }
 
 // Whether a text is words of 1 to `most` bytes that pass a test, joined by dots. In one pass, which ends at the first byte that does
-// not fit: by `split` at the dots and `all` over each word a name takes half as long again.
+// not fit: `split` at the dots and `all` over each word take 1.3 to 1.7 times the instructions on a name of many words, and 7 times
+// the time on a long one that is wrong at its front.
 fn is_dotted<F: Fn(u8) -> bool>(s: &[u8], most: usize, is_in: F) -> bool
     requires { F.IsAlwaysCallable is_in }
     ensures { (test : ℕ → Bool) → Computes (F.post is_in) test → result ≡ dotted test most s.now }

@@ -1,4 +1,4 @@
-use Rattle.std.proofs.Common.{◌≡◌, arith, rules}
+use Rattle.std.proofs.Common.{arith, rules}
 use Rattle.std.proofs.lemmas.Bool.Decides.{nat_tests}
 use Rattle.smtp.proofs.Named.{runs_dotted, runs_more, runs_all}
 use Rattle.smtp.proofs.names.is_dotted.Goals as goal
