@@ -25,6 +25,10 @@ runs_is kind most n (x ∷ s) =
 pub runs_dotted : (kind : ℕ → Bool) (most : ℕ) (s : List ℕ) → runs kind most 0 s ≡ dotted kind most s
 runs_dotted kind most s = let e = runs_is kind most 0 s in grind (arith, tells)
 
+-- no word that is longer already
+pub runs_long : (kind : ℕ → Bool) (most n : ℕ) (s : List ℕ) → most < n → runs kind most n s ≡ false
+runs_long kind most n s h = let e = runs_is kind most n s in grind (arith, tells)
+
 pub runs_more : (kind : ℕ → Bool) (most n : ℕ) (s : List ℕ) (i : ℕ) → i < length s →
     runs kind most n (drop i s) ≡ cond (eqb (get_or s i 0) 46) (within 1 n most && runs kind most 0 (drop (i + 1) s)) (kind (get_or s i 0) && runs kind most (n + 1) (drop (i + 1) s))
 runs_more kind most n s i h = at_drop_more (runs kind most n) s i 0 h

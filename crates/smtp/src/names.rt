@@ -15,8 +15,8 @@ pub fn is_atom_byte(b: u8) -> bool
 }
 
 // Whether a text is words of 1 to `most` bytes that pass a test, joined by dots. In one pass, which ends at the first byte that does
-// not fit: `split` at the dots and `all` over each word take 1.3 to 1.7 times the instructions on a name of many words, and 7 times
-// the time on a long one that is wrong at its front.
+// not fit or is one too many: `split` at the dots and `all` over each word take up to 1.6 times the time on good names, and many times
+// as much on a long one that is wrong at its front.
 fn is_dotted<F: Fn(u8) -> bool>(s: &[u8], most: usize, is_in: F) -> bool
     requires { F.IsAlwaysCallable is_in }
     ensures { (test : ℕ → Bool) → Computes (F.post is_in) test → result ≡ dotted test most s.now }
@@ -25,18 +25,21 @@ fn is_dotted<F: Fn(u8) -> bool>(s: &[u8], most: usize, is_in: F) -> bool
     let mut n: usize = 0;
     for b in s {
         if *b == b'.' {
-            if n == 0 || n > most {
+            if n == 0 {
                 return false;
             }
             n = 0;
         } else {
+            if n >= most {
+                return false;
+            }
             if !is_in(*b) {
                 return false;
             }
             n += 1;
         }
     }
-    n > 0 && n <= most
+    n > 0
 }
 
 // Whether a text is a host name: labels of 1 to 63 letters, digits and hyphens, joined by dots, at most 253 bytes.

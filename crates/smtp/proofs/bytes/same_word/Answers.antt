@@ -1,5 +1,5 @@
--- The answer holds of the call whatever its operands are, and a search sets these beside the two words: a body with other operands that mean the
--- same is proved, and one with other words is refused for what it answers.
+-- What the call answers is said of its operands, whatever they are, and a search sets these beside the two words: so a body with the words in the
+-- other order, or with the whole of a word as `upto` gives it, is proved too, and one with other words is refused for what it answers.
 use Rattle.std.proofs.Common.{◌≡◌, ℕ, Bool, List, map, rules}
 use Rattle.std.specs.Prelude.{◌↔◌, IsTrue}
 use Rattle.std.proofs.lemmas.Bool.Decides.{same_from_decides}

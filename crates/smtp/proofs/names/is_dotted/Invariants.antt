@@ -6,5 +6,5 @@ use Rattle.smtp.proofs.names.is_dotted.Given as goal
 
 abbrev pub invariant-loop-b : goal.invariant-loop-b
 invariant-loop-b g l =
-    (l.n ≤ l.b-index)
+    (l.n ≤ l.most)
     × ((test : ℕ → Bool) → Computes (λ b r. g.F.Fn.post l.is_in (b, tt) r) test → runs test l.most l.n (drop l.b-index l.s) ≡ dotted test l.most l.s)
