@@ -15,8 +15,8 @@ pub fn is_atom_byte(b: u8) -> bool
 }
 
 // Whether a text is words of 1 to `most` bytes that pass a test, joined by dots. In one pass, which ends at the first byte that does
-// not fit or is one too many: `split` at the dots and `all` over each word take up to 1.6 times the time on good names, and many times
-// as much on a long one that is wrong at its front.
+// not fit or is one too many: `split` at the dots and `all` over each word would look at each byte twice, and at all of a long word
+// before its first byte is tested.
 fn is_dotted<F: Fn(u8) -> bool>(s: &[u8], most: usize, is_in: F) -> bool
     requires { F.IsAlwaysCallable is_in }
     ensures { (test : ℕ → Bool) → Computes (F.post is_in) test → result ≡ dotted test most s.now }
