@@ -1,4 +1,4 @@
-use Rattle.std.proofs.Common.{◌≡◌, ℕ, Bool, false, List, drop, Some, None, sym, refl, ap, ◌∙◌, subst}
+use Rattle.std.proofs.Common.{◌≡◌, ℕ, Bool, false, List, Some, None, sym, refl, ap, ◌∙◌, subst, rules}
 use Rattle.std.specs.Option.{option_map}
 use Rattle.smtp.specs.Read.{held, read_reply}
 use Rattle.smtp.specs.Replies.{line_at, reply_code, well_formed}
@@ -21,7 +21,7 @@ loop-first-init c =
     let i : line_at s ≡ Some l = sym c.in_ok-first.ensures.is in
     let f = first_code s l i in
     let d = (decides_more s (reply_code s) l s (decides_start s) i).0 (sym f) in
-    (sym f, carried s refl f (sym (c.from-rest.ensures.is ∙ ap (λ (n : ℕ). drop n s) c.size.ensures)) d)
+    (sym f, carried s refl f (search (rules)) d)
 
 pub returns-in_err-line : goal.returns-in_err-line
 returns-in_err-line c =
@@ -41,4 +41,4 @@ loop-first-preserved c =
     let l = line_of c.in_ok-line.line in
     let d = carried s (sym c.is_last.ensures ∙ c.loop-first-test.true) refl refl c.loop-first.invariant.1 in
     let e = (decides_more s _ l _ d (sym c.in_ok-line.ensures.is)).0 c.if-line-first.false in
-    (c.loop-first.invariant.0, carried s refl refl (sym (c.from-rest-in-loop-first.ensures.is ∙ ap (λ (n : ℕ). drop n c.loop-first.rest.now) c.size-in-loop-first.ensures)) e)
+    (c.loop-first.invariant.0, carried s refl refl (search (rules)) e)
